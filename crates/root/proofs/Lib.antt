@@ -1,0 +1,4 @@
+pub mod Drawing
+pub mod Windows
+pub mod Answer
+pub mod RootOfTwo

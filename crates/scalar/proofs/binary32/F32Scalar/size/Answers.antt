@@ -1,0 +1,6 @@
+use lib.Ieee.{binary32}
+use Rattle.scalar.specs.Lawful.{float-sizes}
+use Rattle.scalar.proofs.binary32.F32Scalar.size.Needs as need
+
+pub returns : need.returns
+returns c = record { value = c .abs .ensures .value; sized = c .abs .ensures .sized; laws = float-sizes binary32 }

@@ -1,0 +1,5 @@
+pub mod Ops
+pub mod FloatLaws
+pub mod FloatOps
+pub mod ComplexOps
+pub mod Lawful
