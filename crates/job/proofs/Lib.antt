@@ -1,0 +1,5 @@
+pub mod Folds
+pub mod Gathers
+pub mod Mirrors
+pub mod Places
+pub mod Starts

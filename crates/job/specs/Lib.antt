@@ -1,0 +1,4 @@
+pub mod Gathered
+pub mod Opening
+pub mod Rejections
+pub mod Typed

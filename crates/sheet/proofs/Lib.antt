@@ -1,0 +1,5 @@
+pub mod Decoding
+pub mod Desks
+pub mod Hexadecimal
+pub mod Runs
+pub mod TableSteps

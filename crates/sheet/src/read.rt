@@ -1,0 +1,36 @@
+// Reading a sheet, table by table.
+ghost use mathlib.Core.Path.{_≡_};
+ghost use lib.ListN.{drop};
+ghost use Rattle.sheet.specs.Desk.{idle};
+ghost use Rattle.sheet.specs.Readings.{readingOf, hadRoom};
+ghost use Rattle.sheet.specs.Sheets.{tableFrom};
+use std::alloc::Global;
+use crate::command::Step;
+use crate::command::next_command;
+use crate::desk::Applied;
+use crate::desk::Closed;
+use crate::desk::Desk;
+use crate::fault::Refusal;
+use crate::reading::Reading;
+
+// The next table that the sheet closes from `place` on. A table still open at the sheet's end is none.
+pub fn next_table(heap: Global, sheet: &[u8], place: usize) -> Result<Reading, Refusal>
+    ensures reading { λ r. ⌜ readingOf r ≡ tableFrom (hadRoom (readingOf r)) 0 place idle (drop place (now (sheet .entry))) ⌝ }
+{
+    let mut desk = Desk::Idle;
+    let mut at = place;
+    'commands: loop {
+        let step = next_command(sheet, at)?;
+        match step {
+            Step::End => return Ok(Reading::Ended),
+            Step::Next { command, after } => match desk.apply(heap, command) {
+                Applied::Goes(next) => {
+                    desk = next;
+                    at = after;
+                }
+                Applied::Closes(table) => return Ok(Reading::Closed { table, after }),
+                Applied::Stops { fault, desk: _ } => return Err(Refusal { fault, place: at }),
+            },
+        }
+    }
+}
