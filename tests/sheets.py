@@ -2,7 +2,7 @@
 """A model of the sheet format (docs/SHEETS.md), written apart from the code, and the sheets of the tests.
 
     sheets.py list          the sheets, a line of hexadecimal digits each
-    sheets.py expect        what a reader answers to each: its listing, with lines joined by ' | '
+    sheets.py expect        what a reader answers to each: its listing, with a bar for each newline
     sheets.py one HEX       the listing of one sheet
 """
 import math
@@ -145,7 +145,7 @@ def main():
             print(sheet.hex().upper())
     elif what == "expect":
         for sheet in sheets():
-            print(" | ".join(listing(sheet)))
+            print("".join(line + "|" for line in listing(sheet)))
     elif what == "one":
         print("\n".join(listing(bytes.fromhex(sys.argv[2]))))
     else:

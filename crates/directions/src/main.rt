@@ -1,9 +1,5 @@
-// Reads a sheet from standard input and lists its tables.
-use sheet::Listing;
-use sheet::Refusal;
-use sheet::heading_line;
+// Reads a sheet from standard input and prints its listing.
 use sheet::list_sheet;
-use sheet::refusal_line;
 use std::error::AnyError;
 use std::io::Read;
 
@@ -17,27 +13,11 @@ fn read_sheet(rt: &LibcRuntime) -> Result<Vec<u8>, AnyError> {
     Ok(sheet)
 }
 
-fn print_refusal(rt: &LibcRuntime, refusal: Refusal) -> Result<(), AnyError> {
-    if let Some(number) = refusal.fault.number() {
-        rt.println(refusal_line(rt.alloc(), number, refusal.place)?)?;
-    }
-    Ok(())
-}
-
-fn print_listing(rt: &LibcRuntime, listing: Listing) -> Result<(), AnyError> {
-    for heading in listing.headings.iter() {
-        rt.println(heading_line(rt.alloc(), *heading)?)?;
-    }
-    if let Some(refusal) = listing.refusal {
-        print_refusal(rt, refusal)?;
-    }
-    Ok(())
-}
-
 fn main(rt: LibcRuntime) -> Result<(), AnyError> {
     let sheet = read_sheet(&rt)?;
     let Ok(listing) = list_sheet(rt.alloc(), &sheet) else {
-        return Err("no memory".into());
+        return Err("no memory for the sheet's tables".into());
     };
-    print_listing(&rt, listing)
+    rt.print(listing.text(rt.alloc())?)?;
+    Ok(())
 }

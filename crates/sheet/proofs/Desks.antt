@@ -4,16 +4,19 @@ use mathlib.Core.Path.{_≡_, refl, sym, ap, _∙_}
 use mathlib.Core.Bool.{Bool, true, false, cond}
 use borrow.Author.Tests.{clash}
 use lib.Dec.{eqb}
-use lib.Ieee.{binary64, ofBits}
+use lib.Ieee.{Float, binary64, ofBits}
 use Rattle.std.specs.declared.option.Option.{Option}
 use Rattle.std.specs.declared.option.Option.the-variants.{Some, None}
 use Rattle.fault.specs.Refusals.{Refusal as Known}
 use Rattle.scalar.specs.ComplexOps.{complexOf}
-use Rattle.job.specs.Typed.{Typed, putting, tolerating, limiting}
+use Rattle.scalar.specs.Ops.{Ops}
+use Rattle.scalar.specs.declared.point.Complex.{Complex}
+use Rattle.job.specs.Typed.{Typed, Outcome, isLimit, isLower, isTolerance, isTyped, putting, tolerating, limiting}
 use Rattle.job.specs.Opening.{Opening, made, turned, starved, opened}
 use Rattle.sheet.specs.Faults.{Why, rule, memory}
 use Rattle.sheet.specs.Commands.{Said, opens, entry, outlineEntry, tolerance, limit, values, vectors}
 use Rattle.sheet.specs.Desk.{State, idle, real, outline, After, goes, closes, stops, applying, typing, starting}
+use Rattle.sheet.specs.Laws.{Unchanged}
 use Rattle.sheet.specs.Desk.{reals, outlines, larger, offReal, onOutline, wrongOperand}
 
 -- An idle desk to go on with.
@@ -109,3 +112,91 @@ starved-idle room (outline j) st′ s e = absurd (clash (sym (roomy-outline room
 
 pub kept-open : (room : Bool) (st st′ : State) (s : Said) → goes st′ ≡ applying room st s → st′ ≡ idle → ⊥
 kept-open room st st′ s e i = clash (sym (keeps room st s) ∙ sym (ap clears e) ∙ ap (λ x. clears (goes x)) i)
+
+-- A refused outcome has the table as it was.
+OnRefusal : Option Known → Type 0 → Type 0
+OnRefusal None P = Unit {0}
+OnRefusal (Some known) P = P
+
+abbrev AsBefore : {C : Type 0} → Typed C Float → Outcome C Float → Type 0
+AsBefore j o = OnRefusal (o .0) (o .1 ≡ j)
+
+either : {C : Type 0} (j : Typed C Float) (b : Bool) (x y : Outcome C Float) → AsBefore j x → AsBefore j y → AsBefore j (cond b x y)
+either j true x y p q = p
+either j false x y p q = q
+
+module _ {C : Type 0} (ops : Ops C Float) (j : Typed C Float) where
+  put-before : (row column : ℕ) (x : C) → AsBefore j (putting ops larger j row column x)
+  unfolding OnRefusal
+  put-before row column x =
+      either j (isLower (j .side) row column) _ _
+      (either j (larger .isFinite (ops .size x)) _ _ (either j (isTyped j row column) _ _ refl tt) refl)
+      refl
+
+module _ {C : Type 0} (j : Typed C Float) where
+  tolerance-before : (t : Float) → AsBefore j (tolerating j t)
+  unfolding OnRefusal
+  tolerance-before t = either j (isTolerance t) _ _ (either j (j .toleranceGiven) _ _ refl tt) refl
+
+  limit-before : (n : ℕ) → AsBefore j (limiting j n)
+  unfolding OnRefusal
+  limit-before n = either j (isLimit n) _ _ (either j (j .limitGiven) _ _ refl tt) refl
+
+typing-unchanged : (o : Option Known) (st st′ : State) → OnRefusal o (st′ ≡ st) → Unchanged st (typing o st′)
+unfolding OnRefusal
+typing-unchanged None st st′ h = tt
+typing-unchanged (Some known) st st′ h = h
+
+on-refusal : (o : Option Known) (P Q : Type 0) → (P → Q) → OnRefusal o P → OnRefusal o Q
+unfolding OnRefusal
+on-refusal None P Q f h = tt
+on-refusal (Some known) P Q f h = f h
+
+real-unchanged : (j : Typed Float Float) (o : Outcome Float Float) → AsBefore j o → Unchanged (real j) (typing (o .0) (real (o .1)))
+real-unchanged j o h = typing-unchanged (o .0) (real j) (real (o .1)) (on-refusal (o .0) _ _ (ap real) h)
+
+outline-unchanged : (j : Typed (Complex Float) Float) (o : Outcome (Complex Float) Float) → AsBefore j o →
+  Unchanged (outline j) (typing (o .0) (outline (o .1)))
+outline-unchanged j o h = typing-unchanged (o .0) (outline j) (outline (o .1)) (on-refusal (o .0) _ _ (ap outline) h)
+
+starting-unchanged : {C : Type 0} (st : Typed C Float → State) (o : Opening C Float) → Unchanged idle (starting st o)
+starting-unchanged st (made j) = tt
+starting-unchanged st (turned known) = refl
+starting-unchanged st starved = refl
+
+either-after : (st : State) (b : Bool) (x y : After) → Unchanged st x → Unchanged st y → Unchanged st (cond b x y)
+either-after st true x y p q = p
+either-after st false x y p q = q
+
+pub unchanged : (room : Bool) (st : State) (s : Said) → Unchanged st (applying room st s)
+unchanged room idle (opens kind side) =
+    either-after idle (eqb kind 0) (starting real (opened reals side room)) _ (starting-unchanged real (opened reals side room))
+    (either-after idle (eqb kind 1) (starting outline (opened outlines side room)) (wrongOperand idle)
+    (starting-unchanged outline (opened outlines side room)) refl)
+unchanged room (real j) (opens kind side) = refl
+unchanged room (outline j) (opens kind side) = refl
+unchanged room idle (entry row column bits) = refl
+unchanged room (real j) (entry row column bits) =
+    real-unchanged j (putting reals larger j row column (ofBits binary64 bits)) (put-before reals j row column (ofBits binary64 bits))
+unchanged room (outline j) (entry row column bits) = refl
+unchanged room idle (outlineEntry row column across along) = refl
+unchanged room (real j) (outlineEntry row column across along) = refl
+unchanged room (outline j) (outlineEntry row column across along) =
+    let x = complexOf (ofBits binary64 across) (ofBits binary64 along) in
+    either-after (outline j) (offReal row column (ofBits binary64 along)) (wrongOperand (outline j))
+    (onOutline (putting outlines larger j row column x)) refl
+    (outline-unchanged j (putting outlines larger j row column x) (put-before outlines j row column x))
+unchanged room idle (tolerance bits) = refl
+unchanged room (real j) (tolerance bits) =
+    real-unchanged j (tolerating j (ofBits binary64 bits)) (tolerance-before j (ofBits binary64 bits))
+unchanged room (outline j) (tolerance bits) =
+    outline-unchanged j (tolerating j (ofBits binary64 bits)) (tolerance-before j (ofBits binary64 bits))
+unchanged room idle (limit count) = refl
+unchanged room (real j) (limit count) = real-unchanged j (limiting j count) (limit-before j count)
+unchanged room (outline j) (limit count) = outline-unchanged j (limiting j count) (limit-before j count)
+unchanged room idle values = refl
+unchanged room (real j) values = tt
+unchanged room (outline j) values = tt
+unchanged room idle vectors = refl
+unchanged room (real j) vectors = tt
+unchanged room (outline j) vectors = tt

@@ -17,6 +17,7 @@ use Rattle.sheet.specs.Faults.{Why, rule, memory, numbered}
 use Rattle.sheet.specs.Desk.{roomFor, State, idle, Table, After, goes, closes, stops, applying}
 use Rattle.sheet.specs.Listings.{Listed, headed, headingOf}
 use Rattle.sheet.specs.Sheets.{Reading, ended, closed, broken, turning, reading, tableFrom, Run, Stop, stop, following, running, runFrom, run}
+use Rattle.sheet.specs.Laws.{from, goingOn, OneByOne}
 use Rattle.sheet.proofs.TableSteps.{beyond, left-of}
 
 -- The operands of the command before are passed over.
@@ -30,12 +31,6 @@ run-skipped (suc k) p st (b ∷ bs) =
 
 abbrev pub before : List Heading → Listed → Listed
 before hs l = record { headings = hs ++ l .headings; refusal = l .refusal }
-
--- What is listed after reading on to a table, `on` being what is listed from a place.
-abbrev pub goingOn : (ℕ → Listed) → Reading → Listed
-goingOn on ended = record { headings = []; refusal = None }
-goingOn on (closed t after) = before (headingOf t ∷ []) (on after)
-goingOn on (broken w place) = record { headings = []; refusal = Some (stop w place) }
 
 -- One command, where what follows it agrees.
 follows : (on : State → Run) (on′ : State → Reading) (go : ℕ → Listed) (place after : ℕ) (a : After) →
@@ -52,10 +47,6 @@ commands on on′ go p st nothing e f = refl
 commands on on′ go p st (wrong w) e f = refl
 commands on on′ go p st (found w n) e f = follows (on n) (on′ n) go p (p + 1 + n) (applying true st w) (e n) (f n)
 
--- What a sheet lists from a place on, no table being open there.
-abbrev pub from : List ℕ → ℕ → Listed
-from s p = headed (runFrom 0 p idle (drop p s))
-
 agree : (s bs : List ℕ) (skip p : ℕ) (st : State) → drop p s ≡ bs →
   headed (runFrom skip p st bs) ≡ goingOn (from s) (tableFrom true skip p st bs)
 unfolding runFrom tableFrom
@@ -66,7 +57,7 @@ agree s (b ∷ bs) zero p st e =
     (λ n st. agree s bs n (p + 1) st (left-of s p b bs e))
     (λ n. ap headed (run-skipped n (p + 1) idle bs ∙ ap (runFrom 0 (p + 1 + n) idle) (beyond s p n b bs e)))
 
-pub table-first : (s : List ℕ) (p : ℕ) → from s p ≡ goingOn (from s) (tableFrom true 0 p idle (drop p s))
+pub table-first : (s : List ℕ) (p : ℕ) → OneByOne s p
 table-first s p = agree s (drop p s) 0 p idle refl
 
 -- A closed table ends after the place where reading began.

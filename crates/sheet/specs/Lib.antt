@@ -2,6 +2,8 @@ pub mod Bytes
 pub mod Commands
 pub mod Desk
 pub mod Faults
+pub mod Laws
+pub mod Lines
 pub mod Listings
 pub mod Readings
 pub mod Sheets

@@ -6,7 +6,7 @@ ghost use Rattle.job.specs.Rejections.{reported};
 ghost use Rattle.job.specs.Typed.{typed};
 ghost use Rattle.sheet.specs.Bytes.{field};
 ghost use Rattle.sheet.specs.Commands.{said};
-ghost use Rattle.sheet.specs.Faults.{why, rule};
+ghost use Rattle.sheet.specs.Laws.{Unchanged};
 ghost use Rattle.sheet.specs.Desk.{afterOf, applying, closing, deskOf, enters, entersOutline, limits, offReal, real, outline, roomy};
 ghost use Rattle.sheet.specs.Desk.{outlines, reals, starting, starts, tolerates, typing};
 ghost use Rattle.job.specs.Opening.{opened};
@@ -170,25 +170,33 @@ fn open(desk: Desk, heap: Global, kind: u8, side: usize) -> Applied
     }
 }
 
+fn applied(desk: Desk, heap: Global, command: Command<'_>) -> Applied
+    ensures outcome { λ r. ⌜ afterOf r ≡ applying (roomy (afterOf r)) (deskOf desk) (said (command .entry)) ⌝ }
+{
+    match command {
+        Command::Open { place: _, operands } => open(desk, heap, u8_at(operands, 0), u16_at(operands, 1) as usize),
+        Command::Entry { place: _, operands } => {
+            enter(desk, u16_at(operands, 0) as usize, u16_at(operands, 2) as usize, number_at(operands, 4))
+        }
+        Command::OutlineEntry { place: _, operands } => {
+            let row = u16_at(operands, 0) as usize;
+            let column = u16_at(operands, 2) as usize;
+            enter_outline(desk, row, column, number_at(operands, 4), number_at(operands, 12))
+        }
+        Command::Tolerance { place: _, operands } => set_tolerance(desk, number_at(operands, 0)),
+        Command::Limit { place: _, operands } => set_limit(desk, u32_at(operands, 0)),
+        Command::Values { place: _, operands: _ } => close(desk, Asked::Values),
+        Command::Vectors { place: _, operands: _ } => close(desk, Asked::Vectors),
+    }
+}
+
 impl Desk {
     // What one command comes to.
     pub fn apply(self, heap: Global, command: Command<'_>) -> Applied
         ensures outcome { λ r. ⌜ afterOf r ≡ applying (roomy (afterOf r)) (deskOf self) (said (command .entry)) ⌝ }
+        // a refused command changes nothing
+        ensures unchanged { λ r. ⌜ Unchanged (deskOf self) (afterOf r) ⌝ }
     {
-        match command {
-            Command::Open { place: _, operands } => open(self, heap, u8_at(operands, 0), u16_at(operands, 1) as usize),
-            Command::Entry { place: _, operands } => {
-                enter(self, u16_at(operands, 0) as usize, u16_at(operands, 2) as usize, number_at(operands, 4))
-            }
-            Command::OutlineEntry { place: _, operands } => {
-                let row = u16_at(operands, 0) as usize;
-                let column = u16_at(operands, 2) as usize;
-                enter_outline(self, row, column, number_at(operands, 4), number_at(operands, 12))
-            }
-            Command::Tolerance { place: _, operands } => set_tolerance(self, number_at(operands, 0)),
-            Command::Limit { place: _, operands } => set_limit(self, u32_at(operands, 0)),
-            Command::Values { place: _, operands: _ } => close(self, Asked::Values),
-            Command::Vectors { place: _, operands: _ } => close(self, Asked::Vectors),
-        }
+        applied(self, heap, command)
     }
 }

@@ -6,6 +6,7 @@ mod desk;
 mod fault;
 mod list;
 mod listing;
+mod print;
 mod read;
 mod reading;
 mod text;

@@ -2,6 +2,7 @@
 ghost use mathlib.Core.Path.{_≡_};
 ghost use Rattle.std.specs.Vec.{made};
 ghost use Rattle.sheet.specs.Desk.{tableOf};
+ghost use Rattle.sheet.specs.Laws.{Final, Gathers, Joins};
 ghost use Rattle.sheet.specs.Listings.{headed, headingOf, listed, listingOf};
 ghost use Rattle.sheet.specs.Sheets.{run};
 use std::alloc::Global;
@@ -70,6 +71,12 @@ fn list_tables(heap: Global, sheet: &[u8]) -> Result<Listing, SheetFault>
 // The listing of a sheet. It fails for want of memory alone.
 pub fn list_sheet(heap: Global, sheet: &[u8]) -> Result<Listing, SheetFault>
     ensures listing { λ r. ⌜ made r (λ l. listingOf l ≡ listed (now (sheet .entry))) ⌝ }
+    // the largest size gathered for each closed table is that of the whole table
+    ensures gathers { λ _. ⌜ Gathers (now (sheet .entry)) ⌝ }
+    // what follows a refused command does not matter
+    ensures unread { λ _. ⌜ Final (now (sheet .entry)) ⌝ }
+    // a sheet behind one that closes all its tables is listed after it
+    ensures joins { λ _. ⌜ Joins (now (sheet .entry)) ⌝ }
 {
     if sheet.len() > LONGEST {
         let refusal = Refusal { fault: Fault::Length.into(), place: 0 };

@@ -2,6 +2,7 @@
 ghost use mathlib.Core.Path.{_≡_};
 ghost use lib.ListN.{drop};
 ghost use Rattle.sheet.specs.Desk.{idle};
+ghost use Rattle.sheet.specs.Laws.{OneByOne, gatheredReading};
 ghost use Rattle.sheet.specs.Readings.{readingOf, hadRoom};
 ghost use Rattle.sheet.specs.Sheets.{tableFrom};
 use std::alloc::Global;
@@ -16,6 +17,10 @@ use crate::reading::Reading;
 // The next table that the sheet closes from `place` on. A table still open at the sheet's end is none.
 pub fn next_table(heap: Global, sheet: &[u8], place: usize) -> Result<Reading, Refusal>
     ensures reading { λ r. ⌜ readingOf r ≡ tableFrom (hadRoom (readingOf r)) 0 place idle (drop place (now (sheet .entry))) ⌝ }
+    // the largest size gathered for the table is that of the whole table
+    ensures gathered { λ r. ⌜ gatheredReading (readingOf r) ⌝ }
+    // a whole sheet lists its tables one by one
+    ensures one_by_one { λ _. ⌜ OneByOne (now (sheet .entry)) place ⌝ }
 {
     let mut desk = Desk::Idle;
     let mut at = place;

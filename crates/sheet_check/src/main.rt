@@ -1,9 +1,6 @@
 // Lists each sheet of a table: a line of hexadecimal digits is one sheet, and a line of the output its listing.
 ghost use Prim.Native.Nat.{_<_};
-use sheet::Listing;
-use sheet::heading_line;
 use sheet::list_sheet;
-use sheet::refusal_line;
 use std::alloc::AllocError;
 use std::alloc::Global;
 use std::error::AnyError;
@@ -29,31 +26,16 @@ fn bytes_of(heap: Global, text: &[u8]) -> Result<Vec<u8>, AllocError> {
     Ok(bytes)
 }
 
-// The listing's lines, joined.
-fn text_of(heap: Global, listing: &Listing) -> Result<String, AllocError> {
-    let mut text = String::new(heap);
-    for heading in listing.headings.iter() {
-        if !text.is_empty() {
-            text.push_str(" | ")?;
-        }
-        text.push_str(heading_line(heap, *heading)?.as_str())?;
-    }
-    if let Some(refusal) = listing.refusal {
-        if !text.is_empty() {
-            text.push_str(" | ")?;
-        }
-        if let Some(number) = refusal.fault.number() {
-            text.push_str(refusal_line(heap, number, refusal.place)?.as_str())?;
-        }
-    }
-    Ok(text)
-}
-
+// The listing of a sheet, in one line: each newline is a bar.
 fn list(heap: Global, sheet: &[u8]) -> Result<String, AnyError> {
     let Ok(listing) = list_sheet(heap, sheet) else {
-        return Err("no memory".into());
+        return Err("no memory for the sheet's tables".into());
     };
-    Ok(text_of(heap, &listing)?)
+    let mut line = String::new(heap);
+    for c in listing.text(heap)?.chars() {
+        line.push(if c == '\n' { '|' } else { c })?;
+    }
+    Ok(line)
 }
 
 // A sheet of this many bytes, each of which closes a table.
