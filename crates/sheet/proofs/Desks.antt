@@ -13,7 +13,7 @@ use Rattle.scalar.specs.Ops.{Ops}
 use Rattle.scalar.specs.declared.point.Complex.{Complex}
 use Rattle.job.specs.Typed.{Typed, Outcome, isLimit, isLower, isTolerance, isTyped, putting, tolerating, limiting}
 use Rattle.job.specs.Opening.{Opening, made, turned, starved, opened}
-use Rattle.sheet.specs.Faults.{Why, rule, memory}
+use Rattle.sheet.specs.Faults.{rule, memory}
 use Rattle.sheet.specs.Commands.{Said, opens, entry, outlineEntry, tolerance, limit, values, vectors}
 use Rattle.sheet.specs.Desk.{State, idle, real, outline, After, goes, closes, stops, applying, typing, starting}
 use Rattle.sheet.specs.Laws.{Unchanged}
@@ -48,7 +48,7 @@ typing-room None st = refl
 typing-room (Some known) st = refl
 
 starting-keeps : {C : Type 0} (st : Typed C _ → State) (o : Opening C _) → ((j : Typed C _) → clears (goes (st j)) ≡ false) →
-  clears (starting st o) ≡ false
+    clears (starting st o) ≡ false
 starting-keeps st (made j) e = e j
 starting-keeps st (turned known) e = refl
 starting-keeps st starved e = refl
@@ -67,7 +67,8 @@ keeps room idle (outlineEntry row column across along) = refl
 keeps room (real j) (outlineEntry row column across along) = refl
 keeps room (outline j) (outlineEntry row column across along) =
     let x = complexOf (ofBits binary64 across) (ofBits binary64 along) in
-    both clears (offReal row column (ofBits binary64 along)) (wrongOperand (outline j)) (onOutline (putting outlines larger j row column x)) refl
+    both clears (offReal row column (ofBits binary64 along)) (wrongOperand (outline j))
+    (onOutline (putting outlines larger j row column x)) refl
     (typing-keeps (putting outlines larger j row column x .0) (outline _) refl)
 keeps room idle (tolerance bits) = refl
 keeps room (real j) (tolerance bits) = typing-keeps (tolerating j (ofBits binary64 bits) .0) (real _) refl
@@ -97,7 +98,8 @@ roomy-outline room j (opens kind side) = refl
 roomy-outline room j (entry row column bits) = refl
 roomy-outline room j (outlineEntry row column across along) =
     let x = complexOf (ofBits binary64 across) (ofBits binary64 along) in
-    both starves (offReal row column (ofBits binary64 along)) (wrongOperand (outline j)) (onOutline (putting outlines larger j row column x)) refl
+    both starves (offReal row column (ofBits binary64 along)) (wrongOperand (outline j))
+    (onOutline (putting outlines larger j row column x)) refl
     (typing-room (putting outlines larger j row column x .0) (outline _))
 roomy-outline room j (tolerance bits) = typing-room (tolerating j (ofBits binary64 bits) .0) (outline _)
 roomy-outline room j (limit count) = typing-room (limiting j count .0) (outline _)
@@ -156,7 +158,7 @@ real-unchanged : (j : Typed Float Float) (o : Outcome Float Float) → AsBefore 
 real-unchanged j o h = typing-unchanged (o .0) (real j) (real (o .1)) (on-refusal (o .0) _ _ (ap real) h)
 
 outline-unchanged : (j : Typed (Complex Float) Float) (o : Outcome (Complex Float) Float) → AsBefore j o →
-  Unchanged (outline j) (typing (o .0) (outline (o .1)))
+    Unchanged (outline j) (typing (o .0) (outline (o .1)))
 outline-unchanged j o h = typing-unchanged (o .0) (outline j) (outline (o .1)) (on-refusal (o .0) _ _ (ap outline) h)
 
 starting-unchanged : {C : Type 0} (st : Typed C Float → State) (o : Opening C Float) → Unchanged idle (starting st o)

@@ -14,14 +14,14 @@ use Rattle.scalar.specs.Ops.{Ops, SizeLaws}
 use Rattle.scalar.specs.ComplexOps.{complexOf}
 use Rattle.scalar.specs.FloatLaws.{abs-size}
 use Rattle.scalar.specs.Lawful.{float-larger, float-laws, float-sizes, complex-sizes, complex-sized}
-use Rattle.scalar.specs.declared.point.Complex.{Complex}
 use Rattle.job.specs.Gathered.{Gathered}
-use Rattle.job.specs.Opening.{Opening, made, turned, starved, opened}
+use Rattle.job.specs.Opening.{made, turned, starved, opened}
 use Rattle.job.specs.Typed.{Typed, blank, isSide, putting, tolerating, limiting}
 use Rattle.job.proofs.Gathers.{blank-gathered, putting-gathered, tolerating-gathered, limiting-gathered}
-use Rattle.sheet.specs.Commands.{Found, nothing, found, wrong, Said, opens, entry, outlineEntry, tolerance, limit, values, vectors, codeOf, coded}
-use Rattle.sheet.specs.Desk.{State, idle, real, outline, After, goes, closes, stops, applying, typing, starting, startingKind}
-use Rattle.sheet.specs.Desk.{reals, outlines, larger, offReal, onOutline, wrongOperand, Table}
+use Rattle.sheet.specs.Commands.{Found, nothing, found, wrong, codeOf, coded}
+use Rattle.sheet.specs.Commands.{Said, opens, entry, outlineEntry, tolerance, limit, values, vectors}
+use Rattle.sheet.specs.Desk.{State, idle, real, outline, After, goes, closes, stops, applying, typing, starting}
+use Rattle.sheet.specs.Desk.{reals, outlines, larger, offReal, onOutline, wrongOperand}
 use Rattle.sheet.specs.Laws.{gatheredReading, gatheredTable, Gathers}
 use Rattle.sheet.specs.Sheets.{Run, following, running, runFrom, Reading, turning, reading, tableFrom}
 
@@ -45,7 +45,7 @@ typed-on None st h = h
 typed-on (Some known) st h = tt
 
 opened-on : {C : Type 0} (ops : Ops C Float) (sizes : SizeLaws ops larger) (st : Typed C Float → State) (side : ℕ) (room : Bool) →
-  ((j : Typed C Float) → Gathered ops larger j → OnDesk (st j)) → Leaves (starting st (opened ops side room))
+    ((j : Typed C Float) → Gathered ops larger j → OnDesk (st j)) → Leaves (starting st (opened ops side room))
 unfolding Leaves OnDesk
 opened-on ops sizes st side room f = by-side (isSide side) room
   where
@@ -58,7 +58,8 @@ complexSizes : SizeLaws outlines larger
 complexSizes = complex-sizes (float-laws binary64)
 
 -- a number read from bits has a size, if that is finite
-real-sized : (bits : ℕ) → T (larger .isFinite (reals .size (ofBits binary64 bits))) → T (larger .isSize (reals .size (ofBits binary64 bits)))
+real-sized : (bits : ℕ) → T (larger .isFinite (reals .size (ofBits binary64 bits))) →
+    T (larger .isSize (reals .size (ofBits binary64 bits)))
 real-sized bits = abs-size binary64 (ofBits binary64 bits) (ofBits-fits binary64 bits)
 
 applied : (room : Bool) (st : State) (s : Said) → OnDesk st → Leaves (applying room st s)
@@ -103,14 +104,14 @@ applied room (real j) vectors h = h
 applied room (outline j) vectors h = h
 
 followed : (on : State → Run) (place : ℕ) (a : After) → Leaves a → ((st : State) → OnDesk st → All gatheredTable (on st .tables)) →
-  All gatheredTable (following on place a .tables)
+    All gatheredTable (following on place a .tables)
 unfolding Leaves OnDesk
 followed on place (goes st) h f = f st h
 followed on place (closes t) h f = (h, f idle tt)
 followed on place (stops w st) h f = tt
 
 ran : (on : ℕ → State → Run) (place : ℕ) (st : State) (f : Found) → OnDesk st →
-  ((n : ℕ) (st : State) → OnDesk st → All gatheredTable (on n st .tables)) → All gatheredTable (running on place st f .tables)
+    ((n : ℕ) (st : State) → OnDesk st → All gatheredTable (on n st .tables)) → All gatheredTable (running on place st f .tables)
 ran on place st nothing h f = tt
 ran on place st (wrong w) h f = tt
 ran on place st (found s n) h f = followed (on n) place (applying true st s) (applied true st s h) (f n)
@@ -127,14 +128,14 @@ unfolding OnDesk
 gathers s = run-gathered s 0 0 idle tt
 
 turned-on : (on : State → Reading) (place after : ℕ) (a : After) → Leaves a → ((st : State) → OnDesk st → gatheredReading (on st)) →
-  gatheredReading (turning on place after a)
+    gatheredReading (turning on place after a)
 unfolding Leaves OnDesk
 turned-on on place after (goes st) h f = f st h
 turned-on on place after (closes t) h f = h
 turned-on on place after (stops w st) h f = tt
 
 read-on : (on : ℕ → State → Reading) (room : Bool) (place : ℕ) (st : State) (f : Found) → OnDesk st →
-  ((n : ℕ) (st : State) → OnDesk st → gatheredReading (on n st)) → gatheredReading (reading on room place st f)
+    ((n : ℕ) (st : State) → OnDesk st → gatheredReading (on n st)) → gatheredReading (reading on room place st f)
 read-on on room place st nothing h f = tt
 read-on on room place st (wrong w) h f = tt
 read-on on room place st (found s n) h f =

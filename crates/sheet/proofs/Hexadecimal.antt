@@ -1,11 +1,8 @@
 -- One more hexadecimal digit after those of the number's front.
 use Prim.Native.Nat.{ℕ, zero, suc, _+_, _-_, _/_, _%_, _<_}
-use native.Mathlib.Nat.{mod-lt}
 use native.Mathlib.Omega.{arith}
-use mathlib.Core.Path.{_≡_, refl, sym, ap, _∙_}
-use mathlib.Core.Bool.{Bool, true, false, cond}
+use mathlib.Core.Path.{_≡_, refl, ap, _∙_}
 use mathlib.Core.List.{List, [], _∷_, _++_, append-assoc}
-use lib.Dec.{ltb}
 use borrow.Author.Needs.{needs}
 use Rattle.std.proofs.shelf.Lists.{append-nil}
 use Rattle.sheet.specs.Text.{hexDigit, hexDigits}
@@ -27,13 +24,14 @@ none start count n e = rw (e, append-nil start)
 
 -- `after` adds what the character `ch` is written as to `before`, which adds the other digits to `start`.
 pub pushed : (start before after written : List ℕ) (ch count n : ℕ) → (count ≡ 0 → ⊥) →
-  before ≡ start ++ hexDigits (count - 1) (n / 16) → ch ≡ hexDigit (n % 16) → (ch < 128 → written ≡ ch ∷ []) →
-  after ≡ before ++ written → after ≡ start ++ hexDigits count n
+    before ≡ start ++ hexDigits (count - 1) (n / 16) → ch ≡ hexDigit (n % 16) → (ch < 128 → written ≡ ch ∷ []) →
+    after ≡ before ++ written → after ≡ start ++ hexDigits count n
 pushed start before after written ch count n some front digit short added =
     let below : n % 16 < 16 = omega arith in
     let small : ch < 128 = rw digit (ascii (n % 16) below) in
     let one : written ≡ hexDigit (n % 16) ∷ [] = short small ∙ ap (λ d. d ∷ []) digit in
     let all : hexDigits count n ≡ hexDigits (count - 1) (n / 16) ++ (hexDigit (n % 16) ∷ []) = more count n some in
     let group : (start ++ hexDigits (count - 1) (n / 16)) ++ (hexDigit (n % 16) ∷ []) ≡
-      start ++ (hexDigits (count - 1) (n / 16) ++ (hexDigit (n % 16) ∷ [])) = append-assoc start (hexDigits (count - 1) (n / 16)) (hexDigit (n % 16) ∷ []) in
+    start ++ (hexDigits (count - 1) (n / 16) ++ (hexDigit (n % 16) ∷ [])) =
+    append-assoc start (hexDigits (count - 1) (n / 16)) (hexDigit (n % 16) ∷ []) in
     cc

@@ -17,8 +17,8 @@ use Rattle.sheet.specs.declared.command.Code.{Code}
 use Rattle.sheet.specs.Faults.{Why}
 use Rattle.sheet.specs.Commands.{Found, nothing, found, wrong, codeOf, coded, operandBytes, saying, Said}
 use Rattle.sheet.specs.Desk.{State, idle, After, goes, closes, stops, applying}
-use Rattle.sheet.specs.Sheets.{Run, Stop, stop, rests, listing, following, running, runFrom, run}
-use Rattle.sheet.specs.Laws.{cutOff, Final, ClosesAll, later, inTurn, Joins}
+use Rattle.sheet.specs.Sheets.{Run, Stop, stop, listing, following, running, runFrom, run}
+use Rattle.sheet.specs.Laws.{cutOff, Final, later, Joins}
 
 -- A command is the same with more bytes behind it, unless it is cut off.
 longer : (o : Option Code) (rest t : List ℕ) → (coded o rest ≡ wrong cutOff) ⊎ (coded o (rest ++ t) ≡ coded o rest)
@@ -29,11 +29,12 @@ longer (Some c) rest t =
   where
     there : List ℕ → Found
     there bs = found (saying c (take (operandBytes c) bs)) (operandBytes c)
+
     whole : leb (operandBytes c) (length rest) ≡ true → coded (Some c) (rest ++ t) ≡ coded (Some c) rest
     whole enough =
         let fits : operandBytes c ≤ length rest = leb-true (operandBytes c) (length rest) enough in
         let still : leb (operandBytes c) (length (rest ++ t)) ≡ true =
-          le-leb (operandBytes c) (length (rest ++ t)) (simp length-append (omega arith)) in
+        le-leb (operandBytes c) (length (rest ++ t)) (simp length-append (omega arith)) in
         ap (λ b. cond b (found (saying c (take (operandBytes c) (rest ++ t))) (operandBytes c)) (wrong cutOff)) still ∙
         ap (λ bs. found (saying c bs) (operandBytes c)) (take-append-le (operandBytes c) rest t fits) ∙
         sym (ap (λ b. cond b (found (saying c (take (operandBytes c) rest)) (operandBytes c)) (wrong cutOff)) enough)
@@ -58,13 +59,13 @@ within (Some c) rest =
 
 -- What both answers of a command have, by what follows.
 followed : (on on′ : State → Run) (place : ℕ) (a : After) (x : Stop) → following on place a .refusal ≡ Some x →
-  ((st : State) → on st .refusal ≡ Some x → on′ st ≡ on st) → following on′ place a ≡ following on place a
+    ((st : State) → on st .refusal ≡ Some x → on′ st ≡ on st) → following on′ place a ≡ following on place a
 followed on on′ place (goes st) x e f = f st e
 followed on on′ place (closes t) x e f = ap (listing t) (f idle e)
 followed on on′ place (stops w st) x e f = refl
 
 ran : (on on′ : ℕ → State → Run) (place : ℕ) (st : State) (f : Found) (x : Stop) → running on place st f .refusal ≡ Some x →
-  ((n : ℕ) (st : State) → on n st .refusal ≡ Some x → on′ n st ≡ on n st) → running on′ place st f ≡ running on place st f
+    ((n : ℕ) (st : State) → on n st .refusal ≡ Some x → on′ n st ≡ on n st) → running on′ place st f ≡ running on place st f
 ran on on′ place st nothing x e h = refl
 ran on on′ place st (wrong w) x e h = refl
 ran on on′ place st (found s n) x e h = followed (on n) (on′ n) place (applying true st s) x e (h n)
@@ -74,7 +75,7 @@ whyOf w None = w
 whyOf w (Some x) = x .why
 
 final-from : (bs t : List ℕ) (skip p : ℕ) (st : State) (x : Stop) → runFrom skip p st bs .refusal ≡ Some x → (x .why ≡ cutOff → ⊥) →
-  runFrom skip p st (bs ++ t) ≡ runFrom skip p st bs
+    runFrom skip p st (bs ++ t) ≡ runFrom skip p st bs
 unfolding runFrom whyOf
 final-from [] t skip p st x e not = let z : _≡_ {A = ℕ} 0 1 = cc in let none : ⊥ = omega arith in absurd none
 final-from (b ∷ bs) t (suc skip) p st x e not = final-from bs t skip (p + 1) st x e not
@@ -95,16 +96,16 @@ abbrev andThen : Run → Run → Run
 andThen a b = record { tables = a .tables ++ b .tables; desk = b .desk; refusal = b .refusal }
 
 followed-on : (on on′ : State → Run) (go : State → Run) (place : ℕ) (a : After) → following on place a .refusal ≡ None →
-  ((st : State) → on st .refusal ≡ None → on′ st ≡ andThen (on st) (go (on st .desk))) →
-  following on′ place a ≡ andThen (following on place a) (go (following on place a .desk))
+    ((st : State) → on st .refusal ≡ None → on′ st ≡ andThen (on st) (go (on st .desk))) →
+    following on′ place a ≡ andThen (following on place a) (go (following on place a .desk))
 followed-on on on′ go place (goes st) e f = f st e
 followed-on on on′ go place (closes t) e f = ap (listing t) (f idle e)
 followed-on on on′ go place (stops w st) e f = let z : _≡_ {A = ℕ} 0 1 = cc in let none : ⊥ = omega arith in absurd none
 
 ran-on : (on on′ : ℕ → State → Run) (go : State → Run) (len place : ℕ) (st : State) (f : Found) → Within len f →
-  running on place st f .refusal ≡ None →
-  ((n : ℕ) (st : State) → n ≤ len → on n st .refusal ≡ None → on′ n st ≡ andThen (on n st) (go (on n st .desk))) →
-  running on′ place st f ≡ andThen (running on place st f) (go (running on place st f .desk))
+    running on place st f .refusal ≡ None →
+    ((n : ℕ) (st : State) → n ≤ len → on n st .refusal ≡ None → on′ n st ≡ andThen (on n st) (go (on n st .desk))) →
+    running on′ place st f ≡ andThen (running on place st f) (go (running on place st f .desk))
 unfolding Within
 ran-on on on′ go len place st nothing w e h = absurd w
 ran-on on on′ go len place st (wrong y) w e h = let z : _≡_ {A = ℕ} 0 1 = cc in let none : ⊥ = omega arith in absurd none
@@ -114,7 +115,7 @@ next-byte : (p : ℕ) (bs : List ℕ) → p + 1 + length bs ≡ p + suc (length 
 next-byte p bs = omega arith
 
 join-from : (bs t : List ℕ) (skip p : ℕ) (st : State) → skip ≤ length bs → runFrom skip p st bs .refusal ≡ None →
-  runFrom skip p st (bs ++ t) ≡ andThen (runFrom skip p st bs) (runFrom 0 (p + length bs) (runFrom skip p st bs .desk) t)
+    runFrom skip p st (bs ++ t) ≡ andThen (runFrom skip p st bs) (runFrom 0 (p + length bs) (runFrom skip p st bs .desk) t)
 unfolding runFrom
 join-from [] t zero p st l e = ap (λ i. runFrom 0 i st t) (sym (add-zero p))
 join-from [] t (suc skip) p st l e = let none : ⊥ = omega arith in absurd none
@@ -137,13 +138,13 @@ abbrev shift : ℕ → Run → Run
 shift k r = record { tables = r .tables; desk = r .desk; refusal = later k (r .refusal) }
 
 followed-late : (k : ℕ) (on on′ : State → Run) (place : ℕ) (a : After) → ((st : State) → on′ st ≡ shift k (on st)) →
-  following on′ (k + place) a ≡ shift k (following on place a)
+    following on′ (k + place) a ≡ shift k (following on place a)
 followed-late k on on′ place (goes st) f = f st
 followed-late k on on′ place (closes t) f = ap (listing t) (f idle)
 followed-late k on on′ place (stops w st) f = refl
 
 ran-late : (k : ℕ) (on on′ : ℕ → State → Run) (place : ℕ) (st : State) (f : Found) → ((n : ℕ) (st : State) → on′ n st ≡ shift k (on n st)) →
-  running on′ (k + place) st f ≡ shift k (running on place st f)
+    running on′ (k + place) st f ≡ shift k (running on place st f)
 ran-late k on on′ place st nothing h = refl
 ran-late k on on′ place st (wrong w) h = refl
 ran-late k on on′ place st (found s n) h = followed-late k (on n) (on′ n) place (applying true st s) (h n)

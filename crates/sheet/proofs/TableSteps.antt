@@ -38,13 +38,13 @@ stepping on room st (next place s after) = turning (on after) place after (apply
 stepping on room st (refuses w place) = broken w place
 
 turns : (on on′ : State → Reading) (place after : ℕ) (a : After) → ((st : State) → on st ≡ on′ st) →
-  turning on place after a ≡ turning on′ place after a
+    turning on place after a ≡ turning on′ place after a
 turns on on′ place after (goes st) e = e st
 turns on on′ place after (closes t) e = refl
 turns on on′ place after (stops w st) e = refl
 
 steps : (on on′ : ℕ → State → Reading) (room : Bool) (place : ℕ) (st : State) (f : Found) →
-  ((n : ℕ) (st : State) → on n st ≡ on′ (place + 1 + n) st) → reading on room place st f ≡ stepping on′ room st (at place f)
+    ((n : ℕ) (st : State) → on n st ≡ on′ (place + 1 + n) st) → reading on room place st f ≡ stepping on′ room st (at place f)
 steps on on′ room place st nothing e = refl
 steps on on′ room place st (found s n) e = turns (on n) (on′ (place + 1 + n)) place (place + 1 + n) (applying room st s) (e n)
 steps on on′ room place st (wrong w) e = refl
@@ -57,7 +57,7 @@ pub beyond : (s : List ℕ) (i n b : ℕ) (bs : List ℕ) → drop i s ≡ b ∷
 beyond s i n b bs e = ap (drop n) (sym (left-of s i b bs e)) ∙ drop-drop n (i + 1) s
 
 at-bytes : (room : Bool) (s : List ℕ) (i : ℕ) (st : State) (bs : List ℕ) → drop i s ≡ bs →
-  tableFrom room 0 i st bs ≡ stepping (λ after st. tableFrom room 0 after st (drop after s)) room st (at i (decode bs))
+    tableFrom room 0 i st bs ≡ stepping (λ after st. tableFrom room 0 after st (drop after s)) room st (at i (decode bs))
 unfolding tableFrom
 at-bytes room s i st [] e = refl
 at-bytes room s i st (b ∷ bs) e =
@@ -66,7 +66,7 @@ at-bytes room s i st (b ∷ bs) e =
 
 -- One step at a place of a sheet.
 pub table-step : (room : Bool) (s : List ℕ) (i : ℕ) (st : State) (x : Stepped) → x ≡ at i (decode (drop i s)) →
-  tableFrom room 0 i st (drop i s) ≡ stepping (λ after st. tableFrom room 0 after st (drop after s)) room st x
+    tableFrom room 0 i st (drop i s) ≡ stepping (λ after st. tableFrom room 0 after st (drop after s)) room st x
 table-step room s i st x e =
     at-bytes room s i st (drop i s) refl ∙ ap (stepping (λ after st. tableFrom room 0 after st (drop after s)) room st) (sym e)
 
@@ -127,18 +127,18 @@ module _ (s : List ℕ) (place i : ℕ) (st : State) (r : Reads s place i st) wh
 
   -- the answer of a command, with room or without
   answer : (room : Bool) (p after : ℕ) (w : Said) (a : After) → next p w after ≡ at i (decode (drop i s)) → a ≡ applying room st w →
-    turning (λ st. tableFrom room 0 after st (drop after s)) i after a ≡ tableFrom room 0 i st (drop i s)
+      turning (λ st. tableFrom room 0 after st (drop after s)) i after a ≡ tableFrom room 0 i st (drop i s)
   answer room p after w a e f =
       ap (λ q. turning (λ st. tableFrom room 0 after st (drop after s)) q after a) (sym (here s i p after w e)) ∙
       ap (turning (λ st. tableFrom room 0 after st (drop after s)) p after) f ∙
       sym (table-step room s i st (next p w after) e)
 
   pub at-close : (p after : ℕ) (w : Said) (t : Table) → next p w after ≡ at i (decode (drop i s)) → closes t ≡ applying true st w →
-    closed t after ≡ tableFrom true 0 place idle (drop place s)
+      closed t after ≡ tableFrom true 0 place idle (drop place s)
   at-close p after w t e a = answer true p after w (closes t) e a ∙ r .same
 
   pub at-stop : (p after : ℕ) (w : Said) (y : Why) (st′ : State) → next p w after ≡ at i (decode (drop i s)) →
-    stops y st′ ≡ applying (roomFor y) st w → broken y i ≡ tableFrom (roomFor y) 0 place idle (drop place s)
+      stops y st′ ≡ applying (roomFor y) st w → broken y i ≡ tableFrom (roomFor y) 0 place idle (drop place s)
   at-stop p after w (rule known) st′ e a = answer true p after w (stops (rule known) st′) e a ∙ r .same
   at-stop p after w memory st′ e a =
       let none : st ≡ idle = starved-idle false st st′ w a in
@@ -147,13 +147,14 @@ module _ (s : List ℕ) (place i : ℕ) (st : State) (r : Reads s place i st) wh
       ap (λ k. tableFrom false 0 k idle (drop k s)) (r .first none)
 
   pub at-wrong : (p : ℕ) (y : Why) → refuses y p ≡ at i (decode (drop i s)) →
-    broken y p ≡ tableFrom (roomFor y) 0 place idle (drop place s)
+      broken y p ≡ tableFrom (roomFor y) 0 place idle (drop place s)
   at-wrong p y e =
       sym (table-step true s i st (refuses y p) e) ∙ r .same ∙
       ap (λ b. tableFrom b 0 place idle (drop place s)) (sym (wrong-room i p y (decode (drop i s)) (decode-room (drop i s)) e))
 
   pub again : (p after : ℕ) (w : Said) (st′ : State) → next p w after ≡ at i (decode (drop i s)) → goes st′ ≡ applying true st w →
-    Reads s place after st′
+      Reads s place after st′
   again p after w st′ e a = record {
     same = answer true p after w (goes st′) e a ∙ r .same;
-    first = λ none. absurd (kept-open true st st′ w a none) }
+    first = λ none. absurd (kept-open true st st′ w a none);
+  }

@@ -1,6 +1,6 @@
 -- The format of a sheet's commands. Definitions only.
 use Prim.Native.Nat.{ℕ, _+_}
-use mathlib.Core.Bool.{Bool, cond}
+use mathlib.Core.Bool.{cond}
 use mathlib.Core.List.{List, [], _∷_}
 use lib.Dec.{eqb, leb}
 use lib.ListN.{length, take}
@@ -68,7 +68,9 @@ pub data Found : Type 0 where
 
 abbrev pub withOperands : Code → List ℕ → Found
 withOperands c rest =
-    cond (leb (operandBytes c) (length rest)) (found (saying c (take (operandBytes c) rest)) (operandBytes c)) (wrong (rule (refused 11 [])))
+    cond (leb (operandBytes c) (length rest))
+    (found (saying c (take (operandBytes c) rest)) (operandBytes c))
+    (wrong (rule (refused 11 [])))
 
 abbrev pub coded : Option Code → List ℕ → Found
 coded None rest = wrong (rule (refused 10 []))

@@ -1,6 +1,6 @@
 -- What a sheet's refusals are known by, each with its number and the values that it bears. Definitions only.
 use Prim.Native.Nat.{ℕ}
-use mathlib.Core.List.{List, []}
+use mathlib.Core.List.{[]}
 use Rattle.std.specs.declared.option.Option.{Option}
 use Rattle.std.specs.declared.option.Option.the-variants.{Some, None}
 use Rattle.fault.specs.Refusals.{Refusal as Known, refused, refusal}

@@ -7,15 +7,14 @@ ghost use Rattle.job.specs.Typed.{typed};
 ghost use Rattle.sheet.specs.Bytes.{field};
 ghost use Rattle.sheet.specs.Commands.{said};
 ghost use Rattle.sheet.specs.Laws.{Unchanged};
-ghost use Rattle.sheet.specs.Desk.{afterOf, applying, closing, deskOf, enters, entersOutline, limits, offReal, real, outline, roomy};
+ghost use Rattle.sheet.specs.Desk.{afterOf, applying, closing, deskOf, enters, entersOutline, limits, offReal, real, outline, roomy, stops};
+ghost use Rattle.sheet.specs.Faults.{why};
 ghost use Rattle.sheet.specs.Desk.{outlines, reals, starting, starts, tolerates, typing};
 ghost use Rattle.job.specs.Opening.{opened};
-use std::alloc::Global;
-use std::num::f64_from_bits_with_nan;
+use crate::bytes::u8_at;
 use crate::bytes::u16_at;
 use crate::bytes::u32_at;
 use crate::bytes::u64_at;
-use crate::bytes::u8_at;
 use crate::command::Command;
 use crate::desk::Applied;
 use crate::desk::Asked;
@@ -33,6 +32,8 @@ use scalar::ComplexScalar;
 use scalar::F64Arithmetic;
 use scalar::F64RealScalar;
 use scalar::F64Scalar;
+use std::alloc::Global;
+use std::num::f64_from_bits_with_nan;
 
 // The binary64 number in the eight bytes from `i` on.
 fn number_at(operands: &[u8], i: usize) -> f64
@@ -41,13 +42,20 @@ fn number_at(operands: &[u8], i: usize) -> f64
     f64_from_bits_with_nan(u64_at(operands, i))
 }
 
+// The desk stays as it was.
+fn refuse(desk: Desk, fault: SheetFault) -> Applied
+    ensures outcome { λ r. ⌜ afterOf r ≡ stops (why fault) (deskOf desk) ⌝ }
+{
+    Applied::Stops { fault, desk }
+}
+
 // A real table after something was typed into it.
 fn on_real(job: Job<f64, f64>, answer: Result<(), Rejected>) -> Applied
     ensures outcome { λ r. ⌜ afterOf r ≡ typing (reported answer) (real (typed job)) ⌝ }
 {
     match answer {
         Ok(()) => Applied::Goes(Desk::Real(job)),
-        Err(why) => Applied::Stops { fault: why.into(), desk: Desk::Real(job) },
+        Err(why) => refuse(Desk::Real(job), why.into()),
     }
 }
 
@@ -56,7 +64,7 @@ fn on_outline(job: Job<Complex<f64>, f64>, answer: Result<(), Rejected>) -> Appl
 {
     match answer {
         Ok(()) => Applied::Goes(Desk::Outline(job)),
-        Err(why) => Applied::Stops { fault: why.into(), desk: Desk::Outline(job) },
+        Err(why) => refuse(Desk::Outline(job), why.into()),
     }
 }
 
@@ -64,12 +72,12 @@ fn enter(desk: Desk, row: usize, column: usize, x: f64) -> Applied
     ensures outcome { λ r. ⌜ afterOf r ≡ enters (deskOf desk) row column x ⌝ }
 {
     match desk {
-        Desk::Idle => Applied::Stops { fault: SheetFault::Order, desk: Desk::Idle },
+        Desk::Idle => refuse(Desk::Idle, SheetFault::Order),
         Desk::Real(mut job) => {
             let answer = job.put(row, column, x);
             on_real(job, answer)
         }
-        Desk::Outline(job) => Applied::Stops { fault: SheetFault::Order, desk: Desk::Outline(job) },
+        Desk::Outline(job) => refuse(Desk::Outline(job), SheetFault::Order),
     }
 }
 
@@ -84,13 +92,20 @@ fn enter_outline(desk: Desk, row: usize, column: usize, across: f64, along: f64)
     ensures outcome { λ r. ⌜ afterOf r ≡ entersOutline (deskOf desk) row column across along ⌝ }
 {
     match desk {
-        Desk::Idle => Applied::Stops { fault: SheetFault::Order, desk: Desk::Idle },
-        Desk::Real(job) => Applied::Stops { fault: SheetFault::Order, desk: Desk::Real(job) },
+        Desk::Idle => refuse(Desk::Idle, SheetFault::Order),
+        Desk::Real(job) => refuse(Desk::Real(job), SheetFault::Order),
         Desk::Outline(mut job) => {
             if is_off_real(row, column, along) {
-                return Applied::Stops { fault: SheetFault::Operand, desk: Desk::Outline(job) };
+                return refuse(Desk::Outline(job), SheetFault::Operand);
             }
-            let answer = job.put(row, column, Complex { re: across, im: along });
+            let answer = job.put(
+                row,
+                column,
+                Complex {
+                    re: across,
+                    im: along,
+                },
+            );
             on_outline(job, answer)
         }
     }
@@ -100,7 +115,7 @@ fn close(desk: Desk, asked: Asked) -> Applied
     ensures outcome { λ r. ⌜ afterOf r ≡ closing (deskOf desk) asked ⌝ }
 {
     match desk {
-        Desk::Idle => Applied::Stops { fault: SheetFault::Order, desk: Desk::Idle },
+        Desk::Idle => refuse(Desk::Idle, SheetFault::Order),
         Desk::Real(job) => Applied::Closes(Closed::Real { asked, job }),
         Desk::Outline(job) => Applied::Closes(Closed::Outline { asked, job }),
     }
@@ -110,7 +125,7 @@ fn set_tolerance(desk: Desk, tolerance: f64) -> Applied
     ensures outcome { λ r. ⌜ afterOf r ≡ tolerates (deskOf desk) tolerance ⌝ }
 {
     match desk {
-        Desk::Idle => Applied::Stops { fault: SheetFault::Order, desk: Desk::Idle },
+        Desk::Idle => refuse(Desk::Idle, SheetFault::Order),
         Desk::Real(mut job) => {
             let answer = job.set_tolerance(tolerance);
             on_real(job, answer)
@@ -126,7 +141,7 @@ fn set_limit(desk: Desk, limit: u32) -> Applied
     ensures outcome { λ r. ⌜ afterOf r ≡ limits (deskOf desk) limit ⌝ }
 {
     match desk {
-        Desk::Idle => Applied::Stops { fault: SheetFault::Order, desk: Desk::Idle },
+        Desk::Idle => refuse(Desk::Idle, SheetFault::Order),
         Desk::Real(mut job) => {
             let answer = job.set_limit(limit);
             on_real(job, answer)
@@ -143,7 +158,7 @@ fn open_real(heap: Global, side: usize) -> Applied
 {
     match Job::<f64, f64>::open(heap, side) {
         Ok(job) => Applied::Goes(Desk::Real(job)),
-        Err(why) => Applied::Stops { fault: why.into(), desk: Desk::Idle },
+        Err(why) => refuse(Desk::Idle, why.into()),
     }
 }
 
@@ -152,7 +167,7 @@ fn open_outline(heap: Global, side: usize) -> Applied
 {
     match Job::<Complex<f64>, f64>::open(heap, side) {
         Ok(job) => Applied::Goes(Desk::Outline(job)),
-        Err(why) => Applied::Stops { fault: why.into(), desk: Desk::Idle },
+        Err(why) => refuse(Desk::Idle, why.into()),
     }
 }
 
@@ -163,10 +178,10 @@ fn open(desk: Desk, heap: Global, kind: u8, side: usize) -> Applied
         Desk::Idle => match kind {
             0 => open_real(heap, side),
             1 => open_outline(heap, side),
-            _ => Applied::Stops { fault: SheetFault::Operand, desk: Desk::Idle },
+            _ => refuse(Desk::Idle, SheetFault::Operand),
         },
-        Desk::Real(job) => Applied::Stops { fault: SheetFault::Order, desk: Desk::Real(job) },
-        Desk::Outline(job) => Applied::Stops { fault: SheetFault::Order, desk: Desk::Outline(job) },
+        Desk::Real(job) => refuse(Desk::Real(job), SheetFault::Order),
+        Desk::Outline(job) => refuse(Desk::Outline(job), SheetFault::Order),
     }
 }
 
@@ -174,19 +189,41 @@ fn applied(desk: Desk, heap: Global, command: Command<'_>) -> Applied
     ensures outcome { λ r. ⌜ afterOf r ≡ applying (roomy (afterOf r)) (deskOf desk) (said (command .entry)) ⌝ }
 {
     match command {
-        Command::Open { place: _, operands } => open(desk, heap, u8_at(operands, 0), u16_at(operands, 1) as usize),
+        Command::Open { place: _, operands } => open(
+            desk,
+            heap,
+            u8_at(operands, 0),
+            u16_at(operands, 1) as usize,
+        ),
         Command::Entry { place: _, operands } => {
-            enter(desk, u16_at(operands, 0) as usize, u16_at(operands, 2) as usize, number_at(operands, 4))
+            enter(
+                desk,
+                u16_at(operands, 0) as usize,
+                u16_at(operands, 2) as usize,
+                number_at(operands, 4),
+            )
         }
         Command::OutlineEntry { place: _, operands } => {
             let row = u16_at(operands, 0) as usize;
             let column = u16_at(operands, 2) as usize;
-            enter_outline(desk, row, column, number_at(operands, 4), number_at(operands, 12))
+            enter_outline(
+                desk,
+                row,
+                column,
+                number_at(operands, 4),
+                number_at(operands, 12),
+            )
         }
         Command::Tolerance { place: _, operands } => set_tolerance(desk, number_at(operands, 0)),
         Command::Limit { place: _, operands } => set_limit(desk, u32_at(operands, 0)),
-        Command::Values { place: _, operands: _ } => close(desk, Asked::Values),
-        Command::Vectors { place: _, operands: _ } => close(desk, Asked::Vectors),
+        Command::Values {
+            place: _,
+            operands: _,
+        } => close(desk, Asked::Values),
+        Command::Vectors {
+            place: _,
+            operands: _,
+        } => close(desk, Asked::Vectors),
     }
 }
 

@@ -37,7 +37,16 @@ fn u32_first(s: &[u8]) -> u32
 fn u64_first(s: &[u8]) -> u64
     ensures value { λ r. ⌜ r ≡ littleEndian (take 8 (now (s .entry))) ⌝ }
 {
-    u64::from_le_bytes([byte(s, 0), byte(s, 1), byte(s, 2), byte(s, 3), byte(s, 4), byte(s, 5), byte(s, 6), byte(s, 7)])
+    u64::from_le_bytes([
+        byte(s, 0),
+        byte(s, 1),
+        byte(s, 2),
+        byte(s, 3),
+        byte(s, 4),
+        byte(s, 5),
+        byte(s, 6),
+        byte(s, 7),
+    ])
 }
 
 pub fn u8_at(s: &[u8], i: usize) -> u8

@@ -1,7 +1,8 @@
 // Commands: each borrows its operand bytes from the sheet and carries the place of its byte.
 ghost use mathlib.Core.Path.{_≡_};
 ghost use lib.ListN.{drop};
-ghost use Rattle.sheet.specs.Commands.{codeOf, operandBytes, saying, placed, said, stepped, decode, at};
+ghost use Rattle.sheet.specs.Commands.{codeOf, operandBytes, saying, placed, refuses, said, stepped, decode, at};
+ghost use Rattle.sheet.specs.Faults.{why};
 use crate::fault::Refusal;
 use crate::fault::SheetFault;
 
@@ -81,6 +82,13 @@ impl Code {
     }
 }
 
+// A refusal of the command at `place`.
+fn refuse<'a>(fault: SheetFault, place: usize) -> Result<Step<'a>, Refusal>
+    ensures refusal { λ r. ⌜ stepped r ≡ refuses (why fault) place ⌝ }
+{
+    Err(Refusal { fault, place })
+}
+
 // The command whose byte stands at `place`.
 pub fn next_command(sheet: &[u8], place: usize) -> Result<Step<'_>, Refusal>
     ensures decoded { λ r. ⌜ stepped r ≡ at place (decode (drop place (now (sheet .entry)))) ⌝ }
@@ -89,12 +97,12 @@ pub fn next_command(sheet: &[u8], place: usize) -> Result<Step<'_>, Refusal>
         return Ok(Step::End);
     }
     let Some(code) = Code::of(sheet[place]) else {
-        return Err(Refusal { fault: SheetFault::Command, place });
+        return refuse(SheetFault::Command, place);
     };
     let count = code.operand_bytes();
     let from = place + 1;
     if count > sheet.len() - from {
-        return Err(Refusal { fault: SheetFault::Cut, place });
+        return refuse(SheetFault::Cut, place);
     }
     let after = from + count;
     let command = code.command(place, &sheet[from..after]);

@@ -1,10 +1,7 @@
 // The desk on which a sheet's tables are typed, one at a time.
-use fault::Fault;
-use job::Job;
-use job::Rejected;
-use job::Unopened;
-use scalar::Complex;
 use crate::fault::SheetFault;
+use job::Job;
+use scalar::Complex;
 
 // No table is open, or one of real or of outline numbers: the kind is the case.
 #[derive(Drop)]
@@ -24,8 +21,14 @@ pub enum Asked {
 // A closed table.
 #[derive(Drop)]
 pub enum Closed {
-    Real { asked: Asked, job: Job<f64, f64> },
-    Outline { asked: Asked, job: Job<Complex<f64>, f64> },
+    Real {
+        asked: Asked,
+        job: Job<f64, f64>,
+    },
+    Outline {
+        asked: Asked,
+        job: Job<Complex<f64>, f64>,
+    },
 }
 
 // What one command comes to: the desk after it, the table that it closed and left the desk idle, or why it is refused and the

@@ -5,8 +5,6 @@ ghost use Rattle.sheet.specs.Desk.{tableOf};
 ghost use Rattle.sheet.specs.Laws.{Final, Gathers, Joins};
 ghost use Rattle.sheet.specs.Listings.{headed, headingOf, listed, listingOf};
 ghost use Rattle.sheet.specs.Sheets.{run};
-use std::alloc::Global;
-use std::num::f64_to_bits_with_nan;
 use crate::desk::Closed;
 use crate::fault::Refusal;
 use crate::fault::RefusedSheetFault;
@@ -22,6 +20,8 @@ use scalar::ComplexScalar;
 use scalar::F64Arithmetic;
 use scalar::F64RealScalar;
 use scalar::F64Scalar;
+use std::alloc::Global;
+use std::num::f64_to_bits_with_nan;
 
 // The bytes that a sheet can have.
 const LONGEST: usize = 32_768;
@@ -31,8 +31,16 @@ impl Closed {
         ensures heading { λ r. ⌜ r ≡ headingOf (tableOf (now (self .entry))) ⌝ }
     {
         match self {
-            Closed::Real { asked: _, job } => Heading { kind: 0, side: job.side(), largest: f64_to_bits_with_nan(job.largest()) },
-            Closed::Outline { asked: _, job } => Heading { kind: 1, side: job.side(), largest: f64_to_bits_with_nan(job.largest()) },
+            Closed::Real { asked: _, job } => Heading {
+                kind: 0,
+                side: job.side(),
+                largest: f64_to_bits_with_nan(job.largest()),
+            },
+            Closed::Outline { asked: _, job } => Heading {
+                kind: 1,
+                side: job.side(),
+                largest: f64_to_bits_with_nan(job.largest()),
+            },
         }
     }
 }
@@ -53,7 +61,10 @@ fn list_tables(heap: Global, sheet: &[u8]) -> Result<Listing, SheetFault>
     'tables: loop {
         match next_table(heap, sheet, place) {
             Ok(reading) => match reading {
-                Reading::Ended => return Ok(Listing { headings, refusal: None }),
+                Reading::Ended => return Ok(Listing {
+                    headings,
+                    refusal: None,
+                }),
                 Reading::Closed { table, after } => {
                     headings.push(heading_of(table))?;
                     place = after;
@@ -61,11 +72,30 @@ fn list_tables(heap: Global, sheet: &[u8]) -> Result<Listing, SheetFault>
             },
             // a refusal without a number is want of memory
             Err(refusal) => match refusal.fault.number() {
-                Some(_) => return Ok(Listing { headings, refusal: Some(refusal) }),
+                Some(_) => return Ok(Listing {
+                    headings,
+                    refusal: Some(refusal),
+                }),
                 None => return Err(SheetFault::Memory),
             },
         }
     }
+}
+
+fn list_bounded(heap: Global, sheet: &[u8]) -> Result<Listing, SheetFault>
+    ensures listing { λ r. ⌜ made r (λ l. listingOf l ≡ listed (now (sheet .entry))) ⌝ }
+{
+    if sheet.len() > LONGEST {
+        let refusal = Refusal {
+            fault: Fault::Length.into(),
+            place: 0,
+        };
+        return Ok(Listing {
+            headings: Vec::new(heap),
+            refusal: Some(refusal),
+        });
+    }
+    list_tables(heap, sheet)
 }
 
 // The listing of a sheet. It fails for want of memory alone.
@@ -78,9 +108,5 @@ pub fn list_sheet(heap: Global, sheet: &[u8]) -> Result<Listing, SheetFault>
     // a sheet behind one that closes all its tables is listed after it
     ensures joins { λ _. ⌜ Joins (now (sheet .entry)) ⌝ }
 {
-    if sheet.len() > LONGEST {
-        let refusal = Refusal { fault: Fault::Length.into(), place: 0 };
-        return Ok(Listing { headings: Vec::new(heap), refusal: Some(refusal) });
-    }
-    list_tables(heap, sheet)
+    list_bounded(heap, sheet)
 }

@@ -7,13 +7,13 @@ ghost use Rattle.std.specs.shelf.Lists.{joined};
 ghost use Rattle.sheet.specs.Faults.{why};
 ghost use Rattle.sheet.specs.Listings.{listingOf};
 ghost use Rattle.sheet.specs.Lines.{headingLine, line, listingText, refusalLine};
-use std::alloc::AllocError;
-use std::alloc::Global;
 use crate::fault::Refusal;
 use crate::listing::Listing;
 use crate::text::Heading;
 use crate::text::heading_line;
 use crate::text::refusal_line;
+use std::alloc::AllocError;
+use std::alloc::Global;
 
 fn push_line(text: &mut String, content: &str) -> Result<(), AllocError>
     ensures line { λ r. ⌜ made r (λ _. string-bytes (now (text .exit)) ≡ string-bytes (now (text .entry)) ++ line (now (content .entry))) ⌝ }
@@ -32,10 +32,8 @@ fn push_heading(text: &mut String, heap: Global, heading: Heading) -> Result<(),
 }
 
 fn push_headings(text: &mut String, heap: Global, headings: &[Heading]) -> Result<(), AllocError>
-    ensures lines {
-        λ r. ⌜ made r (λ _. string-bytes (now (text .exit)) ≡
-            string-bytes (now (text .entry)) ++ joined headingLine (now (headings .entry))) ⌝
-    }
+    ensures lines { λ r. ⌜ made r (λ _. string-bytes (now (text .exit)) ≡
+        string-bytes (now (text .entry)) ++ joined headingLine (now (headings .entry))) ⌝ }
 {
     for heading in headings {
         push_heading(text, heap, *heading)?;
@@ -44,10 +42,8 @@ fn push_headings(text: &mut String, heap: Global, headings: &[Heading]) -> Resul
 }
 
 fn push_refusal(text: &mut String, heap: Global, refusal: Refusal) -> Result<(), AllocError>
-    ensures line {
-        λ r. ⌜ made r (λ _. string-bytes (now (text .exit)) ≡
-            string-bytes (now (text .entry)) ++ refusalLine (why (refusal .fault)) (refusal .place)) ⌝
-    }
+    ensures line { λ r. ⌜ made r (λ _. string-bytes (now (text .exit)) ≡
+        string-bytes (now (text .entry)) ++ refusalLine (why (refusal .fault)) (refusal .place)) ⌝ }
 {
     if let Some(number) = refusal.fault.number() {
         let line = refusal_line(heap, number, refusal.place)?;

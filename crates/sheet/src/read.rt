@@ -2,17 +2,25 @@
 ghost use mathlib.Core.Path.{_≡_};
 ghost use lib.ListN.{drop};
 ghost use Rattle.sheet.specs.Desk.{idle};
+ghost use Rattle.sheet.specs.Faults.{why};
 ghost use Rattle.sheet.specs.Laws.{OneByOne, gatheredReading};
 ghost use Rattle.sheet.specs.Readings.{readingOf, hadRoom};
-ghost use Rattle.sheet.specs.Sheets.{tableFrom};
-use std::alloc::Global;
+ghost use Rattle.sheet.specs.Sheets.{broken, tableFrom};
 use crate::command::Step;
 use crate::command::next_command;
 use crate::desk::Applied;
-use crate::desk::Closed;
 use crate::desk::Desk;
 use crate::fault::Refusal;
+use crate::fault::SheetFault;
 use crate::reading::Reading;
+use std::alloc::Global;
+
+// A refusal of the command at `place`.
+fn refuse(fault: SheetFault, place: usize) -> Result<Reading, Refusal>
+    ensures refusal { λ r. ⌜ readingOf r ≡ broken (why fault) place ⌝ }
+{
+    Err(Refusal { fault, place })
+}
 
 // The next table that the sheet closes from `place` on. A table still open at the sheet's end is none.
 pub fn next_table(heap: Global, sheet: &[u8], place: usize) -> Result<Reading, Refusal>
@@ -34,7 +42,7 @@ pub fn next_table(heap: Global, sheet: &[u8], place: usize) -> Result<Reading, R
                     at = after;
                 }
                 Applied::Closes(table) => return Ok(Reading::Closed { table, after }),
-                Applied::Stops { fault, desk: _ } => return Err(Refusal { fault, place: at }),
+                Applied::Stops { fault, desk: _ } => return refuse(fault, at),
             },
         }
     }

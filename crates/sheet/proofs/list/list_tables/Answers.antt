@@ -1,4 +1,4 @@
-use mathlib.Core.Path.{_≡_, sym, ap, _∙_}
+use mathlib.Core.Path.{sym, _∙_}
 use Rattle.std.specs.Of.Vec.{vec-items}
 use Rattle.sheet.specs.Desk.{tableOf}
 use Rattle.sheet.specs.Faults.{why}
@@ -8,8 +8,8 @@ use Rattle.sheet.proofs.list.list_tables.Needs as need
 pub returns-in-Ended : need.returns-in-Ended
 returns-in-Ended c = record {
   listing =
-    list-ended (c .args .sheet .now) (vec-items (c .tables .headings)) (c .tables .place) (c .tables .inv)
-    (rw (c .in-Ended .is) at (c .in-Ok .ensures tt .reading))
+      list-ended (c .args .sheet .now) (vec-items (c .tables .headings)) (c .tables .place) (c .tables .inv)
+      (rw (c .in-Ended .is) at (c .in-Ok .ensures tt .reading));
 }
 
 pub tables-less : need.tables-less
@@ -26,8 +26,8 @@ tables-again c =
 pub returns-in-Some : need.returns-in-Some
 returns-in-Some c = record {
   listing =
-    list-broken (c .args .sheet .now) (vec-items (c .tables .headings)) (c .tables .place) (c .tables .inv)
-    (why (c .in-Err .refusal .fault)) (c .in-Err .refusal .place)
-    (numbered-room (why (c .in-Err .refusal .fault)) (c .in-Some .field-0) (sym (c .in-Some .is) ∙ c .number .ensures .number))
-    (c .in-Err .ensures tt .reading)
+      list-broken (c .args .sheet .now) (vec-items (c .tables .headings)) (c .tables .place) (c .tables .inv)
+      (why (c .in-Err .refusal .fault)) (c .in-Err .refusal .place)
+      (numbered-room (why (c .in-Err .refusal .fault)) (c .in-Some .field-0) (sym (c .in-Some .is) ∙ c .number .ensures .number))
+      (c .in-Err .ensures tt .reading);
 }

@@ -10,4 +10,6 @@ loop-heading-again c =
 pub returns : need.returns
 returns c = record {
   lines =
-    printed-all headingLine _ _ (c .args .headings .now) (c .loop-heading .heading-index) (c .loop-heading-test .left) (c .loop-heading .inv) }
+      printed-all headingLine _ _ (c .args .headings .now) (c .loop-heading .heading-index) (c .loop-heading-test .left)
+      (c .loop-heading .inv);
+}

@@ -9,5 +9,7 @@ pub returns : need.returns
 returns c = record {
   outcome = c .applied .ensures .outcome;
   unchanged =
-    let P : After → Type 0 = Unchanged (deskOf (c .args .self)) in
-    subst P (sym (c .applied .ensures .outcome)) (unchanged (roomy (afterOf (c .applied .result))) (deskOf (c .args .self)) (said (c .args .command))) }
+      let P : After → Type 0 = Unchanged (deskOf (c .args .self)) in
+      subst P (sym (c .applied .ensures .outcome))
+      (unchanged (roomy (afterOf (c .applied .result))) (deskOf (c .args .self)) (said (c .args .command)));
+}

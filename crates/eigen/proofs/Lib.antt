@@ -1,0 +1,6 @@
+mod Falls
+mod Turned
+mod Running
+mod Limits
+mod Agreement
+mod Uppers

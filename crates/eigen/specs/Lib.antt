@@ -1,0 +1,11 @@
+pub mod Givens
+pub mod Eigenvalues
+pub mod Blocks
+pub mod Turnings
+pub mod Chases
+pub mod Passes
+pub mod Iterate
+pub mod Runs
+pub mod Settles
+pub mod Laws
+pub mod Unsettled

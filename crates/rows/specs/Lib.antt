@@ -1,0 +1,4 @@
+pub mod Turns
+pub mod Keepers
+pub mod Makes
+pub mod Sounds

@@ -1,0 +1,10 @@
+pub mod Assemble
+pub mod Blas
+pub mod Checks
+pub mod Householder
+pub mod Outcome
+pub mod Runs
+pub mod Reduce
+pub mod Hermitian
+pub mod Tables
+pub mod Tridiagonal
