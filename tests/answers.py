@@ -1,7 +1,7 @@
 #!/usr/bin/env python3
 """Turns nalgebra's answers on seeded tables into the expected output of crates/replay.
 
-    answers.py reduced < ANSWERS > crates/replay/stdout
+    answers.py < ANSWERS > crates/replay/stdout
 
 ANSWERS is a text of groups of lines, one group a table: `case KIND side N seed S ..`, and then a line for each list,
 a name and the numbers' bits in hexadecimal, or `hash H` with the list's hash. The hash is FNV-1a (64 bits, offset
@@ -37,11 +37,15 @@ def groups(lines):
         yield group
 
 
+LISTS = (("given", "table"), ("reduced", "reduced"), ("diagonal", "diagonal"), ("offs", "offs"), ("signs", "signs"), ("q", "q"))
+
+
 def main():
     for g in groups(sys.stdin):
         if g["side"] in SIDES and g["seed"] % 1000 <= 4:
-            lists = [(n, hashed(g[k])) for n, k in (("given", "table"), ("reduced", "reduced"), ("values", "diagonal"), ("offs", "offs"), ("signs", "signs"), ("q", "q"))]
-            print(g["kind"], "side", g["side"], "seed", g["seed"], *(w for pair in lists for w in pair))
+            words = [w for name, key in LISTS for w in (name, hashed(g[key]))]
+            words += ["passes", g["passes"][0], "values", hashed(g["values"]), "vectors", hashed(g["vectors"])]
+            print(g["kind"], "side", g["side"], "seed", g["seed"], *words)
 
 
 main()

@@ -11,10 +11,10 @@ use Rattle.std.specs.declared.option.Option.{Option}
 use Rattle.std.specs.declared.option.Option.the-variants.{Some, None}
 use Rattle.eigen.specs.declared.givens.Rotation.{Rotation}
 use Rattle.eigen.specs.declared.givens.Normed.{Normed}
-use Rattle.eigen.specs.declared.eigenvalues.Pair.{Pair}
+use Rattle.eigen.specs.declared.eigenvalues.Vector2.{Vector2}
 use Rattle.eigen.specs.declared.chase.Corner.{Corner}
 use Rattle.eigen.specs.Givens.{cancelY}
-use Rattle.eigen.specs.Eigenvalues.{pairOf, wilkinsonShift}
+use Rattle.eigen.specs.Eigenvalues.{vectorOf, wilkinsonShift}
 use Rattle.eigen.specs.Blocks.{at}
 use Rattle.eigen.specs.Turnings.{Turning, unturned, after}
 
@@ -25,11 +25,11 @@ module _ {R : Type 0} (ops : Ops R R) (real : RealOps R) where
   -- the symmetric block (mii mij)(mij mjj) under a rotation, on both sides
   abbrev pub rotatedCorner : Rotation R → Corner R → Corner R
   rotatedCorner r m =
-    let cc = ops .mul (r .c) (r .c) in
-    let ss = ops .mul (r .s) (r .s) in
-    let cs = ops .mul (r .c) (r .s) in
-    let b = ops .mul (ops .mul cs (real .two)) (m .mij) in
-    cornerOf (ops .sub (ops .add (ops .mul cc (m .mii)) (ops .mul ss (m .mjj))) b)
+      let cc = ops .mul (r .c) (r .c) in
+      let ss = ops .mul (r .s) (r .s) in
+      let cs = ops .mul (r .c) (r .s) in
+      let b = ops .mul (ops .mul cs (real .two)) (m .mij) in
+      cornerOf (ops .sub (ops .add (ops .mul cc (m .mii)) (ops .mul ss (m .mjj))) b)
       (ops .add (ops .mul cs (ops .sub (m .mii) (m .mjj))) (ops .mul (m .mij) (ops .sub cc ss)))
       (ops .add (ops .add (ops .mul ss (m .mii)) (ops .mul cc (m .mjj))) b)
 
@@ -48,8 +48,8 @@ module _ {R : Type 0} (ops : Ops R R) (real : RealOps R) where
   abbrev pub bulgeOffs : ℕ → ℕ → Rotation R → List R → List R
   bulgeOffs end i r offs = cond (ltb (i + 1) end) (set offs (i + 1) (ops .mul (at ops offs (i + 1)) (r .c))) offs
 
-  abbrev pub bulgeNext : ℕ → ℕ → Rotation R → List R → Pair R → Pair R
-  bulgeNext end i r offs old = cond (ltb (i + 1) end) (pairOf (at ops offs i) (ops .mul (ops .neg (r .s)) (at ops offs (i + 1)))) old
+  abbrev pub bulgeNext : ℕ → ℕ → Rotation R → List R → Vector2 R → Vector2 R
+  bulgeNext end i r offs old = cond (ltb (i + 1) end) (vectorOf (at ops offs i) (ops .mul (ops .neg (r .s)) (at ops offs (i + 1)))) old
 
   -- one step: the values, and the off-diagonal entries up to the next bulge
   abbrev pub stepCorner : ℕ → ℕ → Normed R → List R → List R → Corner R
@@ -63,25 +63,27 @@ module _ {R : Type 0} (ops : Ops R R) (real : RealOps R) where
 
 module _ {R : Type 0} (ops : Ops R R) (real : RealOps R) (start end : ℕ) where
   -- one step of the chase and the rest of it; it is left where there is nothing to cancel
-  abbrev pub chaseOn : ℕ → Pair R → List R → List R → (Pair R → List R → List R → Turning R) → Option (Normed R) → Turning R
+  abbrev pub chaseOn : ℕ → Vector2 R → List R → List R → (Vector2 R → List R → List R → Turning R) → Option (Normed R) → Turning R
   chaseOn i bulge values offs rest None = unturned values offs
   chaseOn i bulge values offs rest (Some found) =
-    let next = stepOffs ops real start i found values offs in
-    after (turnOf i (found .rotation .c) (found .rotation .s) Back)
+      let next = stepOffs ops real start i found values offs in
+      after (turnOf i (found .rotation .c) (found .rotation .s) Back)
       (rest (bulgeNext ops real end i (found .rotation) next bulge) (stepValues ops real start i found values offs)
-        (bulgeOffs ops real end i (found .rotation) next))
+      (bulgeOffs ops real end i (found .rotation) next))
 
   -- the chase from i, with so many rotations at most
-  unfoldable pub chaseFrom : ℕ → ℕ → Pair R → List R → List R → Turning R
+  unfoldable pub chaseFrom : ℕ → ℕ → Vector2 R → List R → List R → Turning R
   chaseFrom zero i bulge values offs = unturned values offs
   chaseFrom (suc left) i bulge values offs =
-    chaseOn i bulge values offs (λ b v o. chaseFrom left (i + 1) b v o) (cancelY ops real (bulge .x) (bulge .y))
+      chaseOn i bulge values offs (λ b v o. chaseFrom left (i + 1) b v o) (cancelY ops real (bulge .x) (bulge .y))
 
 module _ {R : Type 0} (ops : Ops R R) (real : RealOps R) where
-  -- the bulge that a block's chase starts from: its first value less the Wilkinson shift of its last two, beside its first off-diagonal entry
-  abbrev pub firstBulge : ℕ → ℕ → List R → List R → Pair R
+  -- the bulge that a block's chase starts from: its first value less the Wilkinson shift of its last two, beside its first off-diagonal
+  -- entry
+  abbrev pub firstBulge : ℕ → ℕ → List R → List R → Vector2 R
   firstBulge start end values offs =
-    pairOf (ops .sub (at ops values start) (wilkinsonShift ops real (at ops values (end - 1)) (at ops values end) (at ops offs (end - 1))))
+      vectorOf (ops .sub (at ops values start) (wilkinsonShift ops real (at ops values (end - 1)) (at ops values end)
+      (at ops offs (end - 1))))
       (at ops offs start)
 
   abbrev pub chased : ℕ → ℕ → List R → List R → Turning R

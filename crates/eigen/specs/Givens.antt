@@ -28,9 +28,9 @@ module _ {R : Type 0} (ops : Ops R R) (real : RealOps R) where
   -- the rotation that takes (x, y) to (±length, 0); none where y is zero
   abbrev pub cancelY : R → R → Option (Normed R)
   cancelY x y = cond (ops .isZero y) None
-    (Some (normedOf (cosineOf x y) (real .div (ops .neg y) (signedLength x y)) (signedLength x y)))
+      (Some (normedOf (cosineOf x y) (real .div (ops .neg y) (signedLength x y)) (signedLength x y)))
 
   -- the rotation whose cosine and sine are as x and y; none unless their length is above the tolerance
   abbrev pub tryNew : R → R → R → Option (Normed R)
   tryNew x y tolerance = cond (real .lt tolerance (lengthOf x y))
-    (Some (normedOf (cosineOf x y) (real .div y (signedLength x y)) (signedLength x y))) None
+      (Some (normedOf (cosineOf x y) (real .div y (signedLength x y)) (signedLength x y))) None

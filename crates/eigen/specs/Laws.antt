@@ -32,18 +32,24 @@ pub record Finish (C R : Type 0) : Type 0 where
 
 abbrev pub startOf : {C R : Type 0} → ℕ → R → List R → List R → R → Kept C → Start C R
 startOf side largest values offs tolerance kept =
-  record { side = side; largest = largest; values = values; offs = offs; tolerance = tolerance; kept = kept }
+    record { side = side; largest = largest; values = values; offs = offs; tolerance = tolerance; kept = kept }
 
 abbrev pub finishOf : {C R : Type 0} → Answer ℕ → List R → List R → Kept C → Finish C R
 finishOf answer values offs kept = record { answer = answer; values = values; offs = offs; kept = kept }
 
 abbrev pub taskOf : {C R : Type 0} → Start C R → Task R
 taskOf s = record {
-  side = s .side; largest = s .largest; values = s .values; offs = s .offs; tolerance = s .tolerance; width = s .kept .width
+  side = s .side;
+  largest = s .largest;
+  values = s .values;
+  offs = s .offs;
+  tolerance = s .tolerance;
+  width = s .kept .width;
 }
 
 -- a run from a start at a limit ends so
-pub record IsRun {C R : Type 0} (ops : Ops C R) (rops : Ops R R) (real : RealOps R) (s : Start C R) (limit : ℕ) (f : Finish C R) : Type 0 where
+pub record IsRun {C R : Type 0} (ops : Ops C R) (rops : Ops R R) (real : RealOps R) (s : Start C R) (limit : ℕ) (f : Finish C R) : Type
+    0 where
   pub answer : f .answer ≡ settleOf rops real (taskOf s) limit .answer
   pub values : f .values ≡ settleOf rops real (taskOf s) limit .values
   pub offs : f .offs ≡ settleOf rops real (taskOf s) limit .offs
@@ -75,7 +81,7 @@ pub record Agree {C R : Type 0} (s t : Start C R) (f g : Finish C R) : Type 0 wh
   pub values : f .values ≡ g .values
   pub offs : f .offs ≡ g .offs
   pub rows : (i j : ℕ) → i < length (s .kept .rows) → j < length (t .kept .rows) →
-    getD (s .kept .rows) i [] ≡ getD (t .kept .rows) j [] → getD (f .kept .rows) i [] ≡ getD (g .kept .rows) j []
+      getD (s .kept .rows) i [] ≡ getD (t .kept .rows) j [] → getD (f .kept .rows) i [] ≡ getD (g .kept .rows) j []
 
 -- two runs get the same answer and leave the same of everything
 pub record Same {C R : Type 0} (f g : Finish C R) : Type 0 where
@@ -112,5 +118,5 @@ module _ {C R : Type 0} (ops : Ops C R) (rops : Ops R R) (real : RealOps R) wher
   -- Of a run settled with so many passes: started alike at an allowed limit above them it comes to the same end, and at a limit from 1 to
   -- them it is not settled, with that limit as its count.
   abbrev pub AnyLimit : Start C R → Finish C R → Type 0
-  AnyLimit s f = (passes m : ℕ) (t : Start C R) (g : Finish C R) → f .answer ≡ settled passes → Alike s t → allowed m ≡ true →
-    IsRun ops rops real t m g → (passes < m → Same f g) × (m ≤ passes → g .answer ≡ notSettled m)
+  AnyLimit s f = (passes m : ℕ) (t : Start C R) (g : Finish C R) → f .answer ≡ settled passes → Alike s t → IsRun ops rops real t m g →
+      (allowed m ≡ true → passes < m → Same f g) × (1 ≤ m → m ≤ passes → g .answer ≡ notSettled m)

@@ -10,9 +10,9 @@ use Rattle.rows.specs.declared.direction.Direction.the-variants.{Forward}
 use Rattle.std.specs.declared.option.Option.{Option}
 use Rattle.std.specs.declared.option.Option.the-variants.{Some, None}
 use Rattle.eigen.specs.declared.givens.Normed.{Normed}
-use Rattle.eigen.specs.declared.eigenvalues.Pair.{Pair}
+use Rattle.eigen.specs.declared.eigenvalues.Vector2.{Vector2}
 use Rattle.eigen.specs.Givens.{tryNew}
-use Rattle.eigen.specs.Eigenvalues.{pairOf, eigenvalues}
+use Rattle.eigen.specs.Eigenvalues.{vectorOf, eigenvalues}
 use Rattle.eigen.specs.Blocks.{at, within}
 use Rattle.eigen.specs.Turnings.{Turning, unturned}
 use Rattle.eigen.specs.Chases.{chased}
@@ -29,26 +29,26 @@ exists (Some x) = true
 
 module _ {R : Type 0} (ops : Ops R R) (real : RealOps R) where
   -- of an eigenvector of a block of two, the one less likely to have lost its digits
-  abbrev pub basisOf : R → R → R → R → Pair R
+  abbrev pub basisOf : R → R → R → R → Vector2 R
   basisOf x first second off =
-    cond (real .lt (ops .modulus (ops .sub x first)) (ops .modulus (ops .sub x second)))
-      (pairOf (ops .sub x second) off) (pairOf off (ops .sub x first))
+      cond (real .lt (ops .modulus (ops .sub x first)) (ops .modulus (ops .sub x second)))
+      (vectorOf (ops .sub x second) off) (vectorOf off (ops .sub x first))
 
-  abbrev pub pairAt : ℕ → List R → List R → Option (Pair R)
+  abbrev pub pairAt : ℕ → List R → List R → Option (Vector2 R)
   pairAt start values offs =
-    eigenvalues ops real (at ops values start) (at ops offs start) (ops .conj (at ops offs start)) (at ops values (start + 1))
+      eigenvalues ops real (at ops values start) (at ops offs start) (ops .conj (at ops offs start)) (at ops values (start + 1))
 
 module _ {R : Type 0} (ops : Ops R R) (real : RealOps R) (tolerance : R) where
-  abbrev pub basisTurns : ℕ → Pair R → List (Turn R)
+  abbrev pub basisTurns : ℕ → Vector2 R → List (Turn R)
   basisTurns start basis = forward start (tryNew ops real (basis .x) (basis .y) tolerance)
 
   -- the two eigenvalues in place of the block's values, and the turn to its eigenvectors
-  abbrev pub pairPut : ℕ → List R → List R → Option (Pair R) → Turning R
+  abbrev pub pairPut : ℕ → List R → List R → Option (Vector2 R) → Turning R
   pairPut start values offs None = unturned values offs
   pairPut start values offs (Some e) = record {
     values = set (set values start (e .x)) (start + 1) (e .y);
     offs = offs;
-    turns = basisTurns start (basisOf ops real (e .x) (at ops values start) (at ops values (start + 1)) (at ops offs start))
+    turns = basisTurns start (basisOf ops real (e .x) (at ops values start) (at ops values (start + 1)) (at ops offs start));
   }
 
   abbrev pub pairLeft : ℕ → List R → List R → Turning R
@@ -67,4 +67,4 @@ module _ {R : Type 0} (ops : Ops R R) (real : RealOps R) (tolerance : R) where
 
   abbrev pub passEnd : ℕ → ℕ → List R → List R → Option ℕ
   passEnd start end values offs = cond (ltb (start + 1) end) (Some (chaseEnd end (chased ops real start end values offs)))
-    (cond (pairExists start values offs) (Some (end - 1)) None)
+      (cond (pairExists start values offs) (Some (end - 1)) None)

@@ -34,7 +34,7 @@ module _ {R : Type 0} (ops : Ops R R) (real : RealOps R) (tolerance : R) where
   -- the block found from `end`
   abbrev pub searched : List R → List R → ℕ → Standing R
   searched values offs end =
-    standingOf values (offsFrom ops real tolerance values offs end) (blockFrom ops real tolerance values offs end)
+      standingOf values (offsFrom ops real tolerance values offs end) (blockFrom ops real tolerance values offs end)
 
   -- after a pass the block is found again
   abbrev pub passedTo : Option ℕ → Turning R → Step (Standing R) (Turn R)
@@ -43,7 +43,7 @@ module _ {R : Type 0} (ops : Ops R R) (real : RealOps R) (tolerance : R) where
 
   abbrev pub passOf : Standing R → Step (Standing R) (Turn R)
   passOf s = cond (eqb (s .block .start) (s .block .end)) single
-    (passedTo (passEnd ops real tolerance (s .block .start) (s .block .end) (s .values) (s .offs))
+      (passedTo (passEnd ops real tolerance (s .block .start) (s .block .end) (s .values) (s .offs))
       (passLeft ops real tolerance (s .block .start) (s .block .end) (s .values) (s .offs)))
 
 module _ {R : Type 0} (ops : Ops R R) where
@@ -60,10 +60,10 @@ module _ {R : Type 0} (ops : Ops R R) where
     answer = r .answer;
     values = valuesAt largest (r .answer) (r .left .values);
     offs = r .left .offs;
-    turns = r .made
+    turns = r .made;
   }
 
 module _ {R : Type 0} (ops : Ops R R) (real : RealOps R) where
   abbrev pub runOf : R → ℕ → ℕ → R → List R → List R → Run R
   runOf tolerance limit side largest values offs =
-    runBy ops largest (iterate (passOf ops real tolerance) limit 0 (searched ops real tolerance values offs (side - 1)))
+      runBy ops largest (iterate (passOf ops real tolerance) limit 0 (searched ops real tolerance values offs (side - 1)))

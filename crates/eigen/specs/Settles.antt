@@ -49,11 +49,11 @@ module _ {R : Type 0} (ops : Ops R R) (real : RealOps R) where
   -- the first refusal that is due: of the lengths, the tolerance, the limit, the keeper's width
   abbrev pub checkOf : ℕ → ℕ → R → ℕ → ℕ → ℕ → Answer (Unit {0})
   checkOf values offs tolerance limit width side =
-    cond (eqb values side && eqb (offs + 1) side)
+      cond (eqb values side && eqb (offs + 1) side)
       (cond (unlawful tolerance) (denied (refused 4 []))
-        (cond (allowed limit)
-          (cond (eqb width side) (given tt) (denied (refused 6 [])))
-          (denied (refused 5 []))))
+      (cond (allowed limit)
+      (cond (eqb width side) (given tt) (denied (refused 6 [])))
+      (denied (refused 5 []))))
       (denied (refused 2 []))
 
   abbrev pub checkTask : Task R → ℕ → Answer (Unit {0})

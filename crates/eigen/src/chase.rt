@@ -1,11 +1,11 @@
 // The chase of a block: rotation after rotation moves the bulge down until it leaves the block.
 use crate::cells::entry;
 use crate::cells::put;
+use crate::eigenvalues::Vector2;
 use crate::eigenvalues::wilkinson_shift;
-use crate::eigenvalues::Pair;
-use crate::givens::cancel_y;
 use crate::givens::Normed;
 use crate::givens::Rotation;
+use crate::givens::cancel_y;
 use rows::Direction;
 use rows::Keeper;
 use scalar::RealScalar;
@@ -58,12 +58,16 @@ fn rotate_corner<R: RealScalar>(values: &mut [R], offs: &mut [R], i: usize, rota
     requires { ⌜ length (now offs) < length (now values) ⌝ }
     ensures values { λ _. ⌜ now (values .exit) ≡ cornerValues (R·Arithmetic .ops) (R·RealScalar .real)
         (rotatedCorner (R·Arithmetic .ops) (R·RealScalar .real) rotation
-            (cornerAt (R·Arithmetic .ops) (R·RealScalar .real) (now (values .entry)) (now (offs .entry)) i)) i (now (values .entry)) ⌝ }
+        (cornerAt (R·Arithmetic .ops) (R·RealScalar .real) (now (values .entry)) (now (offs .entry)) i)) i (now (values .entry)) ⌝ }
     ensures offs { λ _. ⌜ now (offs .exit) ≡ set (now (offs .entry)) i
         (rotatedCorner (R·Arithmetic .ops) (R·RealScalar .real) rotation
-            (cornerAt (R·Arithmetic .ops) (R·RealScalar .real) (now (values .entry)) (now (offs .entry)) i) .mij) ⌝ }
+        (cornerAt (R·Arithmetic .ops) (R·RealScalar .real) (now (values .entry)) (now (offs .entry)) i) .mij) ⌝ }
 {
-    let old = Corner { mii: entry(values, i), mij: entry(offs, i), mjj: entry(values, i + 1) };
+    let old = Corner {
+        mii: entry(values, i),
+        mij: entry(offs, i),
+        mjj: entry(values, i + 1),
+    };
     let new = rotated_corner(old, rotation);
     put(values, i, new.mii);
     put(values, i + 1, new.mjj);
@@ -71,7 +75,13 @@ fn rotate_corner<R: RealScalar>(values: &mut [R], offs: &mut [R], i: usize, rota
 }
 
 // Before the last rotation of a block, what is next to be cancelled.
-fn next_bulge<R: RealScalar>(offs: &mut [R], i: usize, end: usize, rotation: Rotation<R>, old: Pair<R>) -> Pair<R>
+fn next_bulge<R: RealScalar>(
+    offs: &mut [R],
+    i: usize,
+    end: usize,
+    rotation: Rotation<R>,
+    old: Vector2<R>,
+) -> Vector2<R>
     requires { ⌜ i < length (now offs) ⌝ }
     requires { ⌜ end ≤ length (now offs) ⌝ }
     ensures bulge { λ r. ⌜ r ≡ bulgeNext (R·Arithmetic .ops) (R·RealScalar .real) end i rotation (now (offs .entry)) old ⌝ }
@@ -81,14 +91,25 @@ fn next_bulge<R: RealScalar>(offs: &mut [R], i: usize, end: usize, rotation: Rot
         let x = entry(offs, i);
         let next = entry(offs, i + 1);
         put(offs, i + 1, next.mul(rotation.c));
-        Pair { x, y: rotation.s.neg().mul(next) }
+        Vector2 {
+            x,
+            y: rotation.s.neg().mul(next),
+        }
     } else {
         old
     }
 }
 
 // One rotation's part in the values and the off-diagonal entries; answers the next bulge.
-fn step<R: RealScalar>(values: &mut [R], offs: &mut [R], start: usize, end: usize, i: usize, found: Normed<R>, old: Pair<R>) -> Pair<R>
+fn step<R: RealScalar>(
+    values: &mut [R],
+    offs: &mut [R],
+    start: usize,
+    end: usize,
+    i: usize,
+    found: Normed<R>,
+    old: Vector2<R>,
+) -> Vector2<R>
     requires { ⌜ i < end ⌝ }
     requires { ⌜ end ≤ length (now offs) ⌝ }
     requires { ⌜ length (now offs) < length (now values) ⌝ }
@@ -104,15 +125,22 @@ fn step<R: RealScalar>(values: &mut [R], offs: &mut [R], start: usize, end: usiz
     next_bulge(offs, i, end, found.rotation, old)
 }
 
-fn first_bulge<R: RealScalar>(values: &[R], offs: &[R], start: usize, end: usize) -> Pair<R>
+fn first_bulge<R: RealScalar>(values: &[R], offs: &[R], start: usize, end: usize) -> Vector2<R>
     requires { ⌜ start < end ⌝ }
     requires { ⌜ end ≤ length (now offs) ⌝ }
     requires { ⌜ length (now offs) < length (now values) ⌝ }
     ensures bulge { λ r. ⌜ r ≡
         firstBulge (R·Arithmetic .ops) (R·RealScalar .real) start end (now (values .entry)) (now (offs .entry)) ⌝ }
 {
-    let shift = wilkinson_shift(entry(values, end - 1), entry(values, end), entry(offs, end - 1));
-    Pair { x: entry(values, start).sub(shift), y: entry(offs, start) }
+    let shift = wilkinson_shift(
+        entry(values, end - 1),
+        entry(values, end),
+        entry(offs, end - 1),
+    );
+    Vector2 {
+        x: entry(values, start).sub(shift),
+        y: entry(offs, start),
+    }
 }
 
 // The turn that goes with a rotation of the columns i and i + 1.
@@ -124,7 +152,13 @@ fn turn_back<T: Scalar, K: Keeper<T>>(keeper: &mut K, i: usize, rotation: Rotati
 }
 
 // The chase of the block from `start` to `end`, with one back turn of the keeper's rows for each rotation.
-pub(crate) fn chase<T: Scalar, K: Keeper<T>>(values: &mut [T::Real], offs: &mut [T::Real], keeper: &mut K, start: usize, end: usize)
+pub(crate) fn chase<T: Scalar, K: Keeper<T>>(
+    values: &mut [T::Real],
+    offs: &mut [T::Real],
+    keeper: &mut K,
+    start: usize,
+    end: usize,
+)
     requires { ⌜ start < end ⌝ }
     requires { ⌜ end ≤ length (now offs) ⌝ }
     requires { ⌜ length (now offs) < length (now values) ⌝ }

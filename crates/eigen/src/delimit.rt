@@ -86,7 +86,12 @@ fn cut_at<R: RealScalar>(offs: &mut [R], start: usize)
 }
 
 // The block to work on, at or below `end`. The entry before it is set to zero.
-pub(crate) fn delimit_subproblem<R: RealScalar>(values: &[R], offs: &mut [R], end: usize, tolerance: R) -> Block
+pub(crate) fn delimit_subproblem<R: RealScalar>(
+    values: &[R],
+    offs: &mut [R],
+    end: usize,
+    tolerance: R,
+) -> Block
     requires { ⌜ end ≤ length (now offs) ⌝ }
     requires { ⌜ length (now offs) < length (now values) ⌝ }
     ensures block { λ r. ⌜ r ≡

@@ -4,7 +4,7 @@ ghost use mathlib.Core.Path.{_≡_};
 ghost use Rattle.eigen.specs.Eigenvalues.{halfDifference, eigenvalues, wilkinsonShift};
 
 #[derive(Clone, Copy)]
-pub(crate) struct Pair<R: Copy> {
+pub(crate) struct Vector2<R: Copy> {
     pub(crate) x: R,
     pub(crate) y: R,
 }
@@ -16,7 +16,12 @@ fn half_difference<R: RealScalar>(a: R, b: R) -> R
 }
 
 // The eigenvalues of the block (h00 h01)(h10 h11), or none where they are not real.
-pub(crate) fn compute_2x2_eigvals<R: RealScalar>(h00: R, h10: R, h01: R, h11: R) -> Option<Pair<R>>
+pub(crate) fn compute_2x2_eigvals<R: RealScalar>(
+    h00: R,
+    h10: R,
+    h01: R,
+    h11: R,
+) -> Option<Vector2<R>>
     ensures values { λ r. ⌜ r ≡ eigenvalues (R·Arithmetic .ops) (R·RealScalar .real) h00 h10 h01 h11 ⌝ }
 {
     let value = half_difference(h00, h11);
@@ -24,7 +29,10 @@ pub(crate) fn compute_2x2_eigvals<R: RealScalar>(h00: R, h10: R, h01: R, h11: R)
     if R::zero().le(discriminant) {
         let root = discriminant.sqrt();
         let half_trace = h00.add(h11).mul(R::literal_half());
-        Some(Pair { x: half_trace.add(root), y: half_trace.sub(root) })
+        Some(Vector2 {
+            x: half_trace.add(root),
+            y: half_trace.sub(root),
+        })
     } else {
         None
     }

@@ -36,7 +36,10 @@ pub(crate) fn cancel_y<R: RealScalar>(x: R, y: R) -> Option<Normed<R>>
         let c = modulus.div(denominator);
         let s = y.neg().div(sign.scale(denominator));
         let norm = sign.scale(denominator);
-        Some(Normed { rotation: Rotation { c, s }, norm })
+        Some(Normed {
+            rotation: Rotation { c, s },
+            norm,
+        })
     }
 }
 
@@ -50,7 +53,10 @@ pub(crate) fn try_new<R: RealScalar>(x: R, y: R, tolerance: R) -> Option<Normed<
         let norm = sign.scale(denominator);
         let c = modulus.div(denominator);
         let s = y.div(norm);
-        Some(Normed { rotation: Rotation { c, s }, norm })
+        Some(Normed {
+            rotation: Rotation { c, s },
+            norm,
+        })
     } else {
         None
     }

@@ -67,7 +67,7 @@ fn check<T: Scalar, K: Keeper<T>>(
 
 // A run that is not refused, and what it has in common with other runs. The keeper has no say in its answer nor in what it leaves of values
 // and off-diagonal entries, and the limit none but to cut it short.
-fn run_lawfully<T: Scalar, K: Keeper<T>>(
+fn lawful_run<T: Scalar, K: Keeper<T>>(
     side: usize,
     largest: T::Real,
     values: &mut [T::Real],
@@ -115,7 +115,7 @@ pub(crate) fn settle_parts<T: Scalar, K: Keeper<T>>(
 {
     match check::<T, K>(side, values, offs, keeper, tolerance, limit) {
         Err(fault) => Err(Stopped::Refused { fault }),
-        Ok(()) => match run_lawfully::<T, K>(side, largest, values, offs, keeper, tolerance, limit) {
+        Ok(()) => match lawful_run::<T, K>(side, largest, values, offs, keeper, tolerance, limit) {
             Ok(passes) => Ok(passes),
             Err(fault) => Err(Stopped::Ended { fault }),
         },

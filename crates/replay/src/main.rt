@@ -4,7 +4,11 @@ mod random;
 mod sample;
 mod table;
 
+use eigen::Unsettled;
+use eigen::settle;
+use fault::Fault;
 use random::Hash;
+use rows::AllRows;
 use sample::OutlineDouble;
 use sample::OutlineSingle;
 use sample::RealDouble;
@@ -19,8 +23,10 @@ use table::Case;
 use table::Shape;
 use table::drawn;
 use table::filled;
+use tridiagonal::Reduction;
 use tridiagonal::assemble;
 use tridiagonal::reduce;
+use rows::AllRowsKeeper;
 
 fn numbers<T: Sample>(list: &[T]) -> u64 {
     let mut hash = Hash::new();
@@ -59,14 +65,40 @@ fn make_buffers<T: Sample>(heap: Global, n: usize) -> Result<Buffers<T, T::Real>
     })
 }
 
-fn reduced<T: Sample>(n: usize, cells: &mut [T], b: &mut Buffers<T, T::Real>) -> u8 {
-    match reduce(n, cells, &mut b.values, &mut b.offs, &mut b.signs, &mut b.scratch) {
-        Ok(reduction) => match assemble(&reduction, cells, &b.signs, &mut b.q) {
-            Ok(()) => 0,
-            Err(fault) => fault.number(),
+// What came of a table, each list by its hash.
+#[derive(Drop)]
+struct Answers {
+    reduced: u64,
+    diagonal: u64,
+    offs: u64,
+    signs: u64,
+    q: u64,
+    passes: Result<u32, Fault>,
+}
+
+fn settled<T: Sample>(reduction: Reduction<T::Real>, case: Case, b: &mut Buffers<T, T::Real>) -> Result<u32, Fault> {
+    let n = case.side;
+    let mut keeper = AllRows::new(n, n, &mut b.q);
+    match settle::<T, AllRows<T>>(reduction, &mut b.values, &mut b.offs, &mut keeper, T::power(T::fineness()), 1_000_000) {
+        Ok(passes) => Ok(passes),
+        Err(why) => match why {
+            Unsettled::Refused { fault, reduction: _ } => Err(fault),
+            Unsettled::Ended { fault } => Err(fault),
         },
-        Err(fault) => fault.number(),
     }
+}
+
+fn make_answers<T: Sample>(case: Case, cells: &mut [T], b: &mut Buffers<T, T::Real>) -> Result<Answers, Fault> {
+    let n = case.side;
+    let reduction = reduce(n, cells, &mut b.values, &mut b.offs, &mut b.signs, &mut b.scratch)?;
+    assemble(&reduction, cells, &b.signs, &mut b.q)?;
+    let reduced = numbers(cells);
+    let diagonal = reals::<T>(&b.values);
+    let offs = reals::<T>(&b.offs);
+    let signs = numbers(&b.signs);
+    let q = numbers(&b.q);
+    let passes = settled(reduction, case, b);
+    Ok(Answers { reduced, diagonal, offs, signs, q, passes })
 }
 
 fn run<T: Sample>(rt: &LibcRuntime, name: &str, case: Case) -> Result<(), AnyError> {
@@ -75,16 +107,32 @@ fn run<T: Sample>(rt: &LibcRuntime, name: &str, case: Case) -> Result<(), AnyErr
     let mut cells = drawn::<T>(rt.alloc(), case)?;
     let mut b = make_buffers::<T>(rt.alloc(), n)?;
     let given = numbers(&cells);
-    let refused = reduced(n, &mut cells, &mut b);
-    if refused != 0 {
-        println!(rt, "refused {refused}")?;
+    match make_answers(case, &mut cells, &mut b) {
+        Err(fault) => {
+            let number = fault.number();
+            println!(rt, "{name} side {n} seed {seed} refused {number}")?;
+        }
+        Ok(a) => {
+            let Answers { reduced, diagonal, offs, signs, q, passes } = a;
+            print!(rt, "{name} side {n} seed {seed} given {given:016X} reduced {reduced:016X} ")?;
+            print!(rt, "diagonal {diagonal:016X} offs {offs:016X} signs {signs:016X} q {q:016X} ")?;
+            print_passes(rt, passes)?;
+            let values = reals::<T>(&b.values);
+            let vectors = numbers(&b.q);
+            println!(rt, "values {values:016X} vectors {vectors:016X}")?;
+        }
     }
-    let table = numbers(&cells);
-    let values = reals::<T>(&b.values);
-    let offs = reals::<T>(&b.offs);
-    let signs = numbers(&b.signs);
-    let q = numbers(&b.q);
-    println!(rt, "{name} side {n} seed {seed} given {given:016X} reduced {table:016X} values {values:016X} offs {offs:016X} signs {signs:016X} q {q:016X}")?;
+    Ok(())
+}
+
+fn print_passes(rt: &LibcRuntime, passes: Result<u32, Fault>) -> Result<(), AnyError> {
+    match passes {
+        Ok(count) => print!(rt, "passes {count} ")?,
+        Err(fault) => {
+            let number = fault.number();
+            print!(rt, "refused {number} ")?
+        }
+    }
     Ok(())
 }
 

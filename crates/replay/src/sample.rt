@@ -22,6 +22,9 @@ pub trait Sample: Scalar {
 
     fn four() -> Self::Real;
 
+    // The tolerance is 2^-k for this k.
+    fn fineness() -> u32;
+
     fn feed(self, hash: Hash) -> Hash;
 
     fn feed_real(x: Self::Real, hash: Hash) -> Hash;
@@ -48,6 +51,10 @@ pub impl Sample for f64 as RealDouble {
         4.0
     }
 
+    fn fineness() -> u32 {
+        52
+    }
+
     fn feed(self, hash: Hash) -> Hash {
         hash.wide(f64_to_bits_with_nan(self))
     }
@@ -68,6 +75,10 @@ pub impl Sample for f32 as RealSingle {
 
     fn four() -> f32 {
         4.0
+    }
+
+    fn fineness() -> u32 {
+        23
     }
 
     fn feed(self, hash: Hash) -> Hash {
@@ -94,6 +105,10 @@ pub impl Sample for Complex<f64> as OutlineDouble {
         4.0
     }
 
+    fn fineness() -> u32 {
+        52
+    }
+
     fn feed(self, hash: Hash) -> Hash {
         hash.wide(f64_to_bits_with_nan(self.re)).wide(f64_to_bits_with_nan(self.im))
     }
@@ -116,6 +131,10 @@ pub impl Sample for Complex<f32> as OutlineSingle {
 
     fn four() -> f32 {
         4.0
+    }
+
+    fn fineness() -> u32 {
+        23
     }
 
     fn feed(self, hash: Hash) -> Hash {

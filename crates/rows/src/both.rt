@@ -90,13 +90,13 @@ impl<A, B> Both<A, B> {
     }
 
     pub fn first(&self) -> &A
-        ensures { λ r. ⌜ now r ≡ now (self .entry) .first ⌝ }
+        ensures part { λ r. ⌜ now r ≡ now (self .entry) .first ⌝ }
     {
         &self.first
     }
 
     pub fn second(&self) -> &B
-        ensures { λ r. ⌜ now r ≡ now (self .entry) .second ⌝ }
+        ensures part { λ r. ⌜ now r ≡ now (self .entry) .second ⌝ }
     {
         &self.second
     }

@@ -15,7 +15,7 @@ ghost use Rattle.rows.specs.Keepers.{answered, given};
 
 // The row (1, 0) turned forward with c 0 and s 1: (0, −1).
 pub fn quarter_turn() -> Result<(f64, f64), Fault>
-    ensures { λ r. ⌜ answered r ≡ given (zero, fin true 1 (pos 0)) ⌝ }
+    ensures row { λ r. ⌜ answered r ≡ given (zero, fin true 1 (pos 0)) ⌝ }
 {
     let mut cells = [1.0, 0.0];
     let mut keeper = AllRows::new(2, 1, &mut cells);

@@ -17,7 +17,7 @@ use Rattle.sheet.specs.Faults.{rule, memory}
 use Rattle.sheet.specs.Commands.{Said, opens, entry, outlineEntry, tolerance, limit, values, vectors}
 use Rattle.sheet.specs.Desk.{State, idle, real, outline, After, goes, closes, stops, applying, typing, starting}
 use Rattle.sheet.specs.Laws.{Unchanged}
-use Rattle.sheet.specs.Desk.{reals, outlines, larger, offReal, onOutline, wrongOperand}
+use Rattle.sheet.specs.Desk.{reals, outlines, realRules, offReal, onOutline, wrongOperand}
 
 -- An idle desk to go on with.
 abbrev pub clears : After → Bool
@@ -61,15 +61,15 @@ keeps room idle (opens kind side) =
 keeps room (real j) (opens kind side) = refl
 keeps room (outline j) (opens kind side) = refl
 keeps room idle (entry row column bits) = refl
-keeps room (real j) (entry row column bits) = typing-keeps (putting reals larger j row column (ofBits binary64 bits) .0) (real _) refl
+keeps room (real j) (entry row column bits) = typing-keeps (putting reals realRules j row column (ofBits binary64 bits) .0) (real _) refl
 keeps room (outline j) (entry row column bits) = refl
 keeps room idle (outlineEntry row column across along) = refl
 keeps room (real j) (outlineEntry row column across along) = refl
 keeps room (outline j) (outlineEntry row column across along) =
     let x = complexOf (ofBits binary64 across) (ofBits binary64 along) in
     both clears (offReal row column (ofBits binary64 along)) (wrongOperand (outline j))
-    (onOutline (putting outlines larger j row column x)) refl
-    (typing-keeps (putting outlines larger j row column x .0) (outline _) refl)
+    (onOutline (putting outlines realRules j row column x)) refl
+    (typing-keeps (putting outlines realRules j row column x .0) (outline _) refl)
 keeps room idle (tolerance bits) = refl
 keeps room (real j) (tolerance bits) = typing-keeps (tolerating j (ofBits binary64 bits) .0) (real _) refl
 keeps room (outline j) (tolerance bits) = typing-keeps (tolerating j (ofBits binary64 bits) .0) (outline _) refl
@@ -86,7 +86,7 @@ keeps room (outline j) vectors = refl
 -- A table on the desk needs no further memory.
 pub roomy-real : (room : Bool) (j : Typed _ _) (s : Said) → starves (applying room (real j) s) ≡ false
 roomy-real room j (opens kind side) = refl
-roomy-real room j (entry row column bits) = typing-room (putting reals larger j row column (ofBits binary64 bits) .0) (real _)
+roomy-real room j (entry row column bits) = typing-room (putting reals realRules j row column (ofBits binary64 bits) .0) (real _)
 roomy-real room j (outlineEntry row column across along) = refl
 roomy-real room j (tolerance bits) = typing-room (tolerating j (ofBits binary64 bits) .0) (real _)
 roomy-real room j (limit count) = typing-room (limiting j count .0) (real _)
@@ -99,8 +99,8 @@ roomy-outline room j (entry row column bits) = refl
 roomy-outline room j (outlineEntry row column across along) =
     let x = complexOf (ofBits binary64 across) (ofBits binary64 along) in
     both starves (offReal row column (ofBits binary64 along)) (wrongOperand (outline j))
-    (onOutline (putting outlines larger j row column x)) refl
-    (typing-room (putting outlines larger j row column x .0) (outline _))
+    (onOutline (putting outlines realRules j row column x)) refl
+    (typing-room (putting outlines realRules j row column x .0) (outline _))
 roomy-outline room j (tolerance bits) = typing-room (tolerating j (ofBits binary64 bits) .0) (outline _)
 roomy-outline room j (limit count) = typing-room (limiting j count .0) (outline _)
 roomy-outline room j values = refl
@@ -128,11 +128,11 @@ either j true x y p q = p
 either j false x y p q = q
 
 module _ {C : Type 0} (ops : Ops C Float) (j : Typed C Float) where
-  put-before : (row column : ℕ) (x : C) → AsBefore j (putting ops larger j row column x)
+  put-before : (row column : ℕ) (x : C) → AsBefore j (putting ops realRules j row column x)
   unfolding OnRefusal
   put-before row column x =
       either j (isLower (j .side) row column) _ _
-      (either j (larger .isFinite (ops .size x)) _ _ (either j (isTyped j row column) _ _ refl tt) refl)
+      (either j (realRules .isFinite (ops .size x)) _ _ (either j (isTyped j row column) _ _ refl tt) refl)
       refl
 
 module _ {C : Type 0} (j : Typed C Float) where
@@ -179,15 +179,15 @@ unchanged room (real j) (opens kind side) = refl
 unchanged room (outline j) (opens kind side) = refl
 unchanged room idle (entry row column bits) = refl
 unchanged room (real j) (entry row column bits) =
-    real-unchanged j (putting reals larger j row column (ofBits binary64 bits)) (put-before reals j row column (ofBits binary64 bits))
+    real-unchanged j (putting reals realRules j row column (ofBits binary64 bits)) (put-before reals j row column (ofBits binary64 bits))
 unchanged room (outline j) (entry row column bits) = refl
 unchanged room idle (outlineEntry row column across along) = refl
 unchanged room (real j) (outlineEntry row column across along) = refl
 unchanged room (outline j) (outlineEntry row column across along) =
     let x = complexOf (ofBits binary64 across) (ofBits binary64 along) in
     either-after (outline j) (offReal row column (ofBits binary64 along)) (wrongOperand (outline j))
-    (onOutline (putting outlines larger j row column x)) refl
-    (outline-unchanged j (putting outlines larger j row column x) (put-before outlines j row column x))
+    (onOutline (putting outlines realRules j row column x)) refl
+    (outline-unchanged j (putting outlines realRules j row column x) (put-before outlines j row column x))
 unchanged room idle (tolerance bits) = refl
 unchanged room (real j) (tolerance bits) =
     real-unchanged j (tolerating j (ofBits binary64 bits)) (tolerance-before j (ofBits binary64 bits))

@@ -21,14 +21,14 @@ use Rattle.job.proofs.Gathers.{blank-gathered, putting-gathered, tolerating-gat
 use Rattle.sheet.specs.Commands.{Found, nothing, found, wrong, codeOf, coded}
 use Rattle.sheet.specs.Commands.{Said, opens, entry, outlineEntry, tolerance, limit, values, vectors}
 use Rattle.sheet.specs.Desk.{State, idle, real, outline, After, goes, closes, stops, applying, typing, starting}
-use Rattle.sheet.specs.Desk.{reals, outlines, larger, offReal, onOutline, wrongOperand}
+use Rattle.sheet.specs.Desk.{reals, outlines, realRules, offReal, onOutline, wrongOperand}
 use Rattle.sheet.specs.Laws.{gatheredReading, gatheredTable, Gathers}
 use Rattle.sheet.specs.Sheets.{Run, following, running, runFrom, Reading, turning, reading, tableFrom}
 
 OnDesk : State → Type 0
 OnDesk idle = Unit {0}
-OnDesk (real j) = Gathered reals larger j
-OnDesk (outline j) = Gathered outlines larger j
+OnDesk (real j) = Gathered reals realRules j
+OnDesk (outline j) = Gathered outlines realRules j
 
 Leaves : After → Type 0
 Leaves (goes st) = OnDesk st
@@ -44,22 +44,22 @@ unfolding Leaves
 typed-on None st h = h
 typed-on (Some known) st h = tt
 
-opened-on : {C : Type 0} (ops : Ops C Float) (sizes : SizeLaws ops larger) (st : Typed C Float → State) (side : ℕ) (room : Bool) →
-    ((j : Typed C Float) → Gathered ops larger j → OnDesk (st j)) → Leaves (starting st (opened ops side room))
+opened-on : {C : Type 0} (ops : Ops C Float) (sizes : SizeLaws ops realRules) (st : Typed C Float → State) (side : ℕ) (room : Bool) →
+    ((j : Typed C Float) → Gathered ops realRules j → OnDesk (st j)) → Leaves (starting st (opened ops side room))
 unfolding Leaves OnDesk
 opened-on ops sizes st side room f = by-side (isSide side) room
   where
     by-side : (b room : Bool) → Leaves (starting st (cond b (cond room (made (blank ops side)) starved) (turned (refused 13 []))))
-    by-side true true = f (blank ops side) (blank-gathered ops larger sizes side)
+    by-side true true = f (blank ops side) (blank-gathered ops realRules sizes side)
     by-side true false = tt
     by-side false room = tt
 
-complexSizes : SizeLaws outlines larger
+complexSizes : SizeLaws outlines realRules
 complexSizes = complex-sizes (float-laws binary64)
 
 -- a number read from bits has a size, if that is finite
-real-sized : (bits : ℕ) → T (larger .isFinite (reals .size (ofBits binary64 bits))) →
-    T (larger .isSize (reals .size (ofBits binary64 bits)))
+real-sized : (bits : ℕ) → T (realRules .isFinite (reals .size (ofBits binary64 bits))) →
+    T (realRules .isSize (reals .size (ofBits binary64 bits)))
 real-sized bits = abs-size binary64 (ofBits binary64 bits) (ofBits-fits binary64 bits)
 
 applied : (room : Bool) (st : State) (s : Said) → OnDesk st → Leaves (applying room st s)
@@ -73,29 +73,30 @@ applied room (outline j) (opens kind side) h = tt
 applied room idle (entry row column bits) h = tt
 applied room (real j) (entry row column bits) h =
     let x = ofBits binary64 bits in
-    typed-on (putting reals larger j row column x .0) (real (putting reals larger j row column x .1))
-    (putting-gathered reals larger (float-larger binary64) (float-sizes binary64) j row column x (real-sized bits) h)
+    typed-on (putting reals realRules j row column x .0) (real (putting reals realRules j row column x .1))
+    (putting-gathered reals realRules (float-larger binary64) (float-sizes binary64) j row column x (real-sized bits) h)
 applied room (outline j) (entry row column bits) h = tt
 applied room idle (outlineEntry row column across along) h = tt
 applied room (real j) (outlineEntry row column across along) h = tt
 applied room (outline j) (outlineEntry row column across along) h =
     let x = complexOf (ofBits binary64 across) (ofBits binary64 along) in
-    either (offReal row column (ofBits binary64 along)) (wrongOperand (outline j)) (onOutline (putting outlines larger j row column x)) tt
-    (typed-on (putting outlines larger j row column x .0) (outline (putting outlines larger j row column x .1))
-    (putting-gathered outlines larger (float-larger binary64) complexSizes j row column x
+    either (offReal row column (ofBits binary64 along)) (wrongOperand (outline j))
+    (onOutline (putting outlines realRules j row column x)) tt
+    (typed-on (putting outlines realRules j row column x .0) (outline (putting outlines realRules j row column x .1))
+    (putting-gathered outlines realRules (float-larger binary64) complexSizes j row column x
     (complex-sized (float-laws binary64) _ _ (real-sized across) (real-sized along)) h))
 applied room idle (tolerance bits) h = tt
 applied room (real j) (tolerance bits) h =
     typed-on (tolerating j (ofBits binary64 bits) .0) (real (tolerating j (ofBits binary64 bits) .1))
-    (tolerating-gathered reals larger j (ofBits binary64 bits) h)
+    (tolerating-gathered reals realRules j (ofBits binary64 bits) h)
 applied room (outline j) (tolerance bits) h =
     typed-on (tolerating j (ofBits binary64 bits) .0) (outline (tolerating j (ofBits binary64 bits) .1))
-    (tolerating-gathered outlines larger j (ofBits binary64 bits) h)
+    (tolerating-gathered outlines realRules j (ofBits binary64 bits) h)
 applied room idle (limit count) h = tt
 applied room (real j) (limit count) h =
-    typed-on (limiting j count .0) (real (limiting j count .1)) (limiting-gathered reals larger j count h)
+    typed-on (limiting j count .0) (real (limiting j count .1)) (limiting-gathered reals realRules j count h)
 applied room (outline j) (limit count) h =
-    typed-on (limiting j count .0) (outline (limiting j count .1)) (limiting-gathered outlines larger j count h)
+    typed-on (limiting j count .0) (outline (limiting j count .1)) (limiting-gathered outlines realRules j count h)
 applied room idle values h = tt
 applied room (real j) values h = h
 applied room (outline j) values h = h

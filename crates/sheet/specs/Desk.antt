@@ -24,15 +24,15 @@ use Rattle.sheet.specs.declared.desk.Applied.the-variants as applied
 use Rattle.sheet.specs.Faults.{Why, why, rule, memory}
 use Rattle.sheet.specs.Commands.{Said, opens, entry, outlineEntry, tolerance, limit, values, vectors}
 
--- The two kinds: binary64, and complex numbers over it.
+-- The two kinds: binary64, with the rules of a real kind besides, and complex numbers over it.
 abbrev pub reals : Ops Float Float
 reals = floatOps binary64
 
-abbrev pub larger : RealOps Float
-larger = floatReal binary64
+abbrev pub realRules : RealOps Float
+realRules = floatReal binary64
 
 abbrev pub outlines : Ops (Complex Float) Float
-outlines = complexOps reals larger
+outlines = complexOps reals realRules
 
 pub data State : Type 0 where
   idle : State
@@ -86,7 +86,7 @@ starts room (outline j) kind side = outOfOrder (outline j)
 -- 02: an entry of a real table.
 abbrev pub enters : State → ℕ → ℕ → Float → After
 enters idle row column x = outOfOrder idle
-enters (real j) row column x = onReal (putting reals larger j row column x)
+enters (real j) row column x = onReal (putting reals realRules j row column x)
 enters (outline j) row column x = outOfOrder (outline j)
 
 -- 03: an entry of an outline table; on the diagonal its second part is zero, of either sign.
@@ -97,7 +97,8 @@ abbrev pub entersOutline : State → ℕ → ℕ → Float → Float → After
 entersOutline idle row column across along = outOfOrder idle
 entersOutline (real j) row column across along = outOfOrder (real j)
 entersOutline (outline j) row column across along =
-    cond (offReal row column along) (wrongOperand (outline j)) (onOutline (putting outlines larger j row column (complexOf across along)))
+    cond (offReal row column along) (wrongOperand (outline j))
+    (onOutline (putting outlines realRules j row column (complexOf across along)))
 
 -- 04 and 05: the tolerance and the limit.
 abbrev pub tolerates : State → Float → After

@@ -10,15 +10,15 @@ use Rattle.std.specs.shelf.Lists.{All}
 use Rattle.fault.specs.Refusals.{refused}
 use Rattle.job.specs.Gathered.{Gathered}
 use Rattle.sheet.specs.Faults.{Why, rule}
-use Rattle.sheet.specs.Desk.{After, goes, closes, stops, State, idle, Table, realTable, outlineTable, reals, outlines, larger}
+use Rattle.sheet.specs.Desk.{After, goes, closes, stops, State, idle, Table, realTable, outlineTable, reals, outlines, realRules}
 use Rattle.sheet.specs.Listings.{Listed, headed, headingOf}
 use Rattle.sheet.specs.Sheets.{Reading, ended, closed, broken, tableFrom, Run, Stop, stop, runFrom, run}
 
 -- Every table that a sheet closes has the conjugates of its entries above the diagonal, and the largest size that was
 -- gathered as it was typed is that of the whole table, taken entry by entry in column order.
 abbrev pub gatheredTable : Table → Type 0
-gatheredTable (realTable asked j) = Gathered reals larger j
-gatheredTable (outlineTable asked j) = Gathered outlines larger j
+gatheredTable (realTable asked j) = Gathered reals realRules j
+gatheredTable (outlineTable asked j) = Gathered outlines realRules j
 
 abbrev pub gatheredReading : Reading → Type 0
 gatheredReading ended = Unit {0}

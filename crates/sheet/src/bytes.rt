@@ -3,14 +3,14 @@ ghost use mathlib.Core.Path.{_≡_};
 ghost use lib.ListN.{getD, take, drop};
 ghost use Rattle.sheet.specs.Bytes.{littleEndian, field};
 
-pub fn byte(s: &[u8], i: usize) -> u8
+pub(crate) fn byte(s: &[u8], i: usize) -> u8
     ensures value { λ r. ⌜ r ≡ getD (now (s .entry)) i 0 ⌝ }
 {
     if i < s.len() { s[i] } else { 0 }
 }
 
 // What is left of `s` from `i` on: nothing where `i` lies past the end.
-pub fn tail(s: &[u8], i: usize) -> &[u8]
+pub(crate) fn tail(s: &[u8], i: usize) -> &[u8]
     ensures rest { λ r. ⌜ now r ≡ drop i (now (s .entry)) ⌝ }
 {
     if i < s.len() { &s[i..] } else { &[] }
@@ -49,25 +49,25 @@ fn u64_first(s: &[u8]) -> u64
     ])
 }
 
-pub fn u8_at(s: &[u8], i: usize) -> u8
+pub(crate) fn u8_at(s: &[u8], i: usize) -> u8
     ensures value { λ r. ⌜ r ≡ field i 1 (now (s .entry)) ⌝ }
 {
     u8_first(tail(s, i))
 }
 
-pub fn u16_at(s: &[u8], i: usize) -> u16
+pub(crate) fn u16_at(s: &[u8], i: usize) -> u16
     ensures value { λ r. ⌜ r ≡ field i 2 (now (s .entry)) ⌝ }
 {
     u16_first(tail(s, i))
 }
 
-pub fn u32_at(s: &[u8], i: usize) -> u32
+pub(crate) fn u32_at(s: &[u8], i: usize) -> u32
     ensures value { λ r. ⌜ r ≡ field i 4 (now (s .entry)) ⌝ }
 {
     u32_first(tail(s, i))
 }
 
-pub fn u64_at(s: &[u8], i: usize) -> u64
+pub(crate) fn u64_at(s: &[u8], i: usize) -> u64
     ensures value { λ r. ⌜ r ≡ field i 8 (now (s .entry)) ⌝ }
 {
     u64_first(tail(s, i))

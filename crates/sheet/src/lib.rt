@@ -13,16 +13,11 @@ mod text;
 
 pub use self::fault::AllocSheetFault;
 pub use self::fault::Refusal;
+pub use self::fault::RefusedSheetFault;
 pub use self::fault::RejectedSheetFault;
 pub use self::fault::SheetFault;
 pub use self::fault::SolverSheetFault;
 pub use self::fault::UnopenedSheetFault;
-pub use bytes::byte;
-pub use bytes::tail;
-pub use bytes::u8_at;
-pub use bytes::u16_at;
-pub use bytes::u32_at;
-pub use bytes::u64_at;
 pub use command::Command;
 pub use command::Step;
 pub use command::next_command;

@@ -15,10 +15,10 @@ use crate::text::refusal_line;
 use std::alloc::AllocError;
 use std::alloc::Global;
 
-fn push_line(text: &mut String, content: &str) -> Result<(), AllocError>
-    ensures line { λ r. ⌜ made r (λ _. string-bytes (now (text .exit)) ≡ string-bytes (now (text .entry)) ++ line (now (content .entry))) ⌝ }
+fn push_line(text: &mut String, words: &str) -> Result<(), AllocError>
+    ensures line { λ r. ⌜ made r (λ _. string-bytes (now (text .exit)) ≡ string-bytes (now (text .entry)) ++ line (now (words .entry))) ⌝ }
 {
-    text.push_str(content)?;
+    text.push_str(words)?;
     text.push_str("\n")?;
     Ok(())
 }

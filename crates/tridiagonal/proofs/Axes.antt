@@ -8,24 +8,24 @@ use Rattle.tridiagonal.specs.Householder.{Kind, signedNorm, axisFactor, axisRe
 
 module _ {C R : Type 0} (K : Kind C R) (xs : List C) where
   pub signed-is : (first signed : C) (norm : R) → first ≡ getD xs 0 (K .ops .zero) → norm ≡ normOf (K .ops) (K .real) xs →
-    signed ≡ K .ops .scale (K .ops .split first .1) norm → signed ≡ signedNorm K xs
+      signed ≡ K .ops .scale (K .ops .split first .1) norm → signed ≡ signedNorm K xs
   unfolding signedNorm
   signed-is first signed norm f n s = cc
 
   pub factor-is : (first : C) (squared norm factor : R) → first ≡ getD xs 0 (K .ops .zero) → squared ≡ normSquaredOf (K .ops) xs →
-    norm ≡ normOf (K .ops) (K .real) xs →
-    factor ≡ K .reals .mul (K .reals .add squared (K .reals .mul (K .ops .split first .0) norm)) (K .real .two) →
-    factor ≡ axisFactor K xs
+      norm ≡ normOf (K .ops) (K .real) xs →
+      factor ≡ K .reals .mul (K .reals .add squared (K .reals .mul (K .ops .split first .0) norm)) (K .real .two) →
+      factor ≡ axisFactor K xs
   unfolding axisFactor
   factor-is first squared norm factor f s n e = cc
 
   pub reflects-is : (factor : R) (zero : Bool) → factor ≡ axisFactor K xs → zero ≡ K .reals .isZero factor →
-    axisReflects K xs ≡ not zero
+      axisReflects K xs ≡ not zero
   unfolding axisReflects
   reflects-is factor zero f e = cc
 
   pub moved-is : (first signed moved : C) → first ≡ getD xs 0 (K .ops .zero) → signed ≡ signedNorm K xs →
-    moved ≡ K .ops .add first signed → set xs 0 moved ≡ firstMoved K xs
+      moved ≡ K .ops .add first signed → set xs 0 moved ≡ firstMoved K xs
   unfolding firstMoved
   moved-is first signed moved f s e = cc
 
@@ -42,6 +42,6 @@ module _ {C R : Type 0} (K : Kind C R) (xs : List C) where
   axis-kept e = rw e
 
   pub axis-made : axisReflects K xs ≡ true →
-    axisOf K xs ≡ normalised (K .ops) (K .real) (unscaled (K .ops) (K .real .root (axisFactor K xs)) (firstMoved K xs))
+      axisOf K xs ≡ normalised (K .ops) (K .real) (unscaled (K .ops) (K .real .root (axisFactor K xs)) (firstMoved K xs))
   unfolding axisOf
   axis-made e = rw e

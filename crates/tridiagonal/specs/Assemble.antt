@@ -28,7 +28,7 @@ module _ {C R : Type 0} (K : Kind C R) where
   unfoldable pub reflectedColumns : ℕ → ℕ → List C → C → ℕ → List C → List C
   reflectedColumns n r axis sign zero q = q
   reflectedColumns n r axis sign (suc m) q =
-    take r q ++ (reflected K axis sign (take (n - r) (drop r q)) ++ reflectedColumns n r axis sign m (drop n q))
+      take r q ++ (reflected K axis sign (take (n - r) (drop r q)) ++ reflectedColumns n r axis sign m (drop n q))
 
   -- the columns from i on reflected, from the row after the diagonal down
   abbrev pub reflectedFrom : ℕ → ℕ → List C → C → List C → List C

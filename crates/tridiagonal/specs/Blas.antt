@@ -1,40 +1,36 @@
 -- Sums over columns, for every number kind. Definitions only.
 use mathlib.Core.List.{List, [], _∷_, map}
 use mathlib.Core.Bool.{cond}
-use Prim.Native.Nat.{ℕ, zero, suc, _/_}
+use Prim.Native.Nat.{ℕ, zero, suc, _+_, _/_}
 use lib.ListN.{length, drop, getD}
 use Rattle.scalar.specs.Ops.{Ops, RealOps}
+use Rattle.tridiagonal.specs.declared.sums.Sums.{Sums}
 
 -- a sum with one product more: of the conjugate of x's entry at i with y's
 abbrev pub plusProduct : {C R : Type 0} → Ops C R → C → List C → List C → ℕ → C
 plusProduct o sum xs ys i = o .add sum (o .mul (o .conj (getD xs i (o .zero))) (getD ys i (o .zero)))
 
--- eight running sums
-pub record Sums (C : Type 0) : Type 0 where
-  pub s0 : C
-  pub s1 : C
-  pub s2 : C
-  pub s3 : C
-  pub s4 : C
-  pub s5 : C
-  pub s6 : C
-  pub s7 : C
-
 abbrev pub noSums : {C R : Type 0} → Ops C R → Sums C
 noSums o = record { s0 = o .zero; s1 = o .zero; s2 = o .zero; s3 = o .zero; s4 = o .zero; s5 = o .zero; s6 = o .zero; s7 = o .zero }
 
--- each of them takes one of the next eight products
-abbrev pub eightMore : {C R : Type 0} → Ops C R → Sums C → List C → List C → Sums C
-eightMore o s xs ys = record {
-  s0 = plusProduct o (s .s0) xs ys 0; s1 = plusProduct o (s .s1) xs ys 1;
-  s2 = plusProduct o (s .s2) xs ys 2; s3 = plusProduct o (s .s3) xs ys 3;
-  s4 = plusProduct o (s .s4) xs ys 4; s5 = plusProduct o (s .s5) xs ys 5;
-  s6 = plusProduct o (s .s6) xs ys 6; s7 = plusProduct o (s .s7) xs ys 7 }
+-- each of eight sums takes one of the eight products from place i on
+abbrev pub eightAt : {C R : Type 0} → Ops C R → Sums C → List C → List C → ℕ → Sums C
+eightAt o s xs ys i =
+    record {
+      s0 = plusProduct o (s .s0) xs ys i;
+      s1 = plusProduct o (s .s1) xs ys (i + 1);
+      s2 = plusProduct o (s .s2) xs ys (i + 2);
+      s3 = plusProduct o (s .s3) xs ys (i + 3);
+      s4 = plusProduct o (s .s4) xs ys (i + 4);
+      s5 = plusProduct o (s .s5) xs ys (i + 5);
+      s6 = plusProduct o (s .s6) xs ys (i + 6);
+      s7 = plusProduct o (s .s7) xs ys (i + 7);
+    }
 
 -- the eight sums added up in pairs
 abbrev pub gathered : {C R : Type 0} → Ops C R → Sums C → C
 gathered o s =
-  o .add (o .add (o .add (o .add (o .zero) (o .add (s .s0) (s .s4))) (o .add (s .s1) (s .s5))) (o .add (s .s2) (s .s6)))
+    o .add (o .add (o .add (o .add (o .zero) (o .add (s .s0) (s .s4))) (o .add (s .s1) (s .s5))) (o .add (s .s2) (s .s6)))
     (o .add (s .s3) (s .s7))
 
 -- the products of the entries that are left, one after the other
@@ -46,7 +42,7 @@ plusProducts o sum (x ∷ xs) (y ∷ ys) = plusProducts o (o .add sum (o .mul (o
 -- a number of blocks of eight, and then the rest
 unfoldable pub dotcFrom : {C R : Type 0} → Ops C R → ℕ → Sums C → List C → List C → C
 dotcFrom o zero s xs ys = plusProducts o (gathered o s) xs ys
-dotcFrom o (suc blocks) s xs ys = dotcFrom o blocks (eightMore o s xs ys) (drop 8 xs) (drop 8 ys)
+dotcFrom o (suc blocks) s xs ys = dotcFrom o blocks (eightAt o s xs ys 0) (drop 8 xs) (drop 8 ys)
 
 -- the dot product of the conjugate of xs with ys
 unfoldable pub dotcOf : {C R : Type 0} → Ops C R → List C → List C → C

@@ -21,9 +21,9 @@ signedNorm K xs = K .ops .scale (K .ops .split (getD xs 0 (K .ops .zero)) .1) (n
 -- twice the sum of the squared norm, and of the first entry's modulus by the norm
 unfoldable pub axisFactor : {C R : Type 0} → Kind C R → List C → R
 axisFactor K xs =
-  K .reals .mul
+    K .reals .mul
     (K .reals .add (normSquaredOf (K .ops) xs)
-      (K .reals .mul (K .ops .split (getD xs 0 (K .ops .zero)) .0) (normOf (K .ops) (K .real) xs)))
+    (K .reals .mul (K .ops .split (getD xs 0 (K .ops .zero)) .0) (normOf (K .ops) (K .real) xs)))
     (K .real .two)
 
 -- there is a reflection unless the factor is zero
@@ -41,13 +41,13 @@ firstMoved K xs = set xs 0 (K .ops .add (getD xs 0 (K .ops .zero)) (signedNorm K
 -- and where there is a reflection the column is divided by the factor's root and then by its own norm
 unfoldable pub axisOf : {C R : Type 0} → Kind C R → List C → List C
 axisOf K xs =
-  cond (axisReflects K xs)
+    cond (axisReflects K xs)
     (normalised (K .ops) (K .real) (unscaled (K .ops) (K .real .root (axisFactor K xs)) (firstMoved K xs)))
     (firstMoved K xs)
 
 -- a column reflected across the axis, by a factor of -2, and multiplied by the sign
 unfoldable pub reflected : {C R : Type 0} → Kind C R → List C → C → List C → List C
 reflected K axis sign ys =
-  axpyOf (K .ops)
+    axpyOf (K .ops)
     (K .ops .mul (K .ops .sub (dotcOf (K .ops) axis ys) (K .ops .zero)) (K .ops .scale sign (K .real .minusTwo)))
     axis sign ys

@@ -3,6 +3,8 @@ use mathlib.Core.Path.{_≡_}
 use mathlib.Core.List.{List}
 use Prim.Native.Nat.{ℕ, _+_, _*_, _<_, _≤_}
 use lib.ListN.{getD}
+use Rattle.std.specs.declared.option.Option.{Option}
+use Rattle.fault.specs.Refusals.{Refusal}
 use Rattle.tridiagonal.specs.Assemble.{matrixQ}
 use Rattle.tridiagonal.specs.Checks.{refusalFor}
 use Rattle.tridiagonal.specs.Householder.{Kind}
@@ -31,20 +33,23 @@ buffers t v f s c = record { table = t; values = v; offs = f; signs = s; scratch
 abbrev pub call : {C R : Type 0} → ℕ → Buffers C R → Outcome R → Buffers C R → Run C R
 call n given answer left = record { side = n; given = given; answer = answer; left = left }
 
+abbrev pub refusedFor : {C R : Type 0} → Kind C R → ℕ → Buffers C R → Option Refusal
+refusedFor K n given = refusalFor K n (given .table) (given .values) (given .offs) (given .signs) (given .scratch)
+
 -- A call of `reduce`, by all that it promises.
 pub record ReduceRun {C R : Type 0} (K : Kind C R) (n : ℕ) (given : Buffers C R) (answer : Outcome R) (left : Buffers C R) : Type 0 where
   pub answered : answer ≡ reduceOutcome
-    (refusalFor K n (given .table) (given .values) (given .offs) (given .signs) (given .scratch)) n (largestSize K (given .table))
+      (refusedFor K n given) n (largestSize K (given .table))
   pub table : left .table ≡ unlessRefused
-    (refusalFor K n (given .table) (given .values) (given .offs) (given .signs) (given .scratch)) (given .table) (reducedTable K n (given .table))
+      (refusedFor K n given) (given .table) (reducedTable K n (given .table))
   pub values : left .values ≡ unlessRefused
-    (refusalFor K n (given .table) (given .values) (given .offs) (given .signs) (given .scratch)) (given .values) (valuesOf K n (given .table))
+      (refusedFor K n given) (given .values) (valuesOf K n (given .table))
   pub offs : left .offs ≡ unlessRefused
-    (refusalFor K n (given .table) (given .values) (given .offs) (given .signs) (given .scratch)) (given .offs) (offsOf K n (given .table))
+      (refusedFor K n given) (given .offs) (offsOf K n (given .table))
   pub signs : left .signs ≡ unlessRefused
-    (refusalFor K n (given .table) (given .values) (given .offs) (given .signs) (given .scratch)) (given .signs) (signsOf K n (given .table))
+      (refusedFor K n given) (given .signs) (signsOf K n (given .table))
   pub scratch : LeftOpen
-    (refusalFor K n (given .table) (given .values) (given .offs) (given .signs) (given .scratch)) (given .scratch) (left .scratch)
+      (refusedFor K n given) (given .scratch) (left .scratch)
 
 -- Two tables of side n are alike on and below the diagonal: the same number wherever the row is at least the column.
 abbrev pub AlikeBelow : {C : Type 0} → ℕ → List C → List C → Type 0
@@ -61,7 +66,7 @@ pub record SameForm {C R : Type 0} (K : Kind C R) (n : ℕ) (a b : Buffers C R) 
 -- both answered by a reduction of one side and one largest size, leaves the same form, whatever the other buffers held.
 abbrev pub OnlyLower : {C R : Type 0} → Kind C R → Run C R → Type 0
 OnlyLower {C} {R} K run = (other : Run C R) (n : ℕ) (largest : R) →
-  ReduceRun K (other .side) (other .given) (other .answer) (other .left) →
-  run .answer ≡ Reduced n largest → other .answer ≡ Reduced n largest →
-  AlikeBelow n (run .given .table) (other .given .table) →
-  SameForm K n (run .left) (other .left)
+    ReduceRun K (other .side) (other .given) (other .answer) (other .left) →
+    run .answer ≡ Reduced n largest → other .answer ≡ Reduced n largest →
+    AlikeBelow n (run .given .table) (other .given .table) →
+    SameForm K n (run .left) (other .left)

@@ -21,7 +21,7 @@ module _ {C R : Type 0} (K : Kind C R) where
   -- the square reflected from both sides, in three rank-one updates
   abbrev pub threeUpdates : List C → List C → List (List C) → List (List C)
   threeUpdates axis p cs =
-    hegercOf (K .ops) (K .ops .mul (dotcOf (K .ops) axis p) two) axis axis
+      hegercOf (K .ops) (K .ops .mul (dotcOf (K .ops) axis p) two) axis axis
       (hegercOf (K .ops) minusOne axis p (hegercOf (K .ops) minusOne p axis cs))
 
   unfoldable pub updated : List C → List (List C) → List (List C)

@@ -4,9 +4,11 @@ ghost use mathlib.Core.List.{_∷_};
 ghost use Prim.Native.Nat.{_+_, _-_, _*_, _<_, _≤_, _^_};
 ghost use lib.ListN.{length, take, drop};
 ghost use borrow.Rule.Slice.PartMut.{putMid};
-ghost use Rattle.tridiagonal.specs.Blas.{plusProduct, dotcOf, axcOf, axcpyOf, axpyOf, normSquaredOf, normOf, unscaled, normalised};
+ghost use Rattle.tridiagonal.specs.Blas.{plusProduct, noSums, eightAt, gathered, dotcOf};
+ghost use Rattle.tridiagonal.specs.Blas.{axcOf, axcpyOf, axpyOf, normSquaredOf, normOf, unscaled, normalised};
 ghost use Rattle.tridiagonal.specs.Hermitian.{rowSum, belowSum, firstSum, firstColumn, hegemvOf, hegercOf};
 ghost use Rattle.tridiagonal.specs.Tables.{lower, put};
+use crate::sums::Sums;
 use scalar::Arithmetic;
 use scalar::RealScalar;
 use scalar::Scalar;
@@ -20,6 +22,50 @@ fn plus_product<T: Scalar>(sum: T, x: &[T], y: &[T], i: usize) -> T
     sum.add(x[i].conjugate().mul(y[i]))
 }
 
+fn no_sums<T: Scalar>() -> Sums<T>
+    ensures { λ r. ⌜ r ≡ noSums (T·Arithmetic .ops) ⌝ }
+{
+    let zero = T::zero();
+    Sums {
+        s0: zero,
+        s1: zero,
+        s2: zero,
+        s3: zero,
+        s4: zero,
+        s5: zero,
+        s6: zero,
+        s7: zero,
+    }
+}
+
+// Each of the eight sums takes one of the next eight products.
+fn eight_more<T: Scalar>(sums: Sums<T>, x: &[T], y: &[T], i: usize) -> Sums<T>
+    requires in_x { ⌜ i + 8 ≤ length (now x) ⌝ }
+    requires in_y { ⌜ i + 8 ≤ length (now y) ⌝ }
+    ensures { λ r. ⌜ r ≡ eightAt (T·Arithmetic .ops) sums (now (x .entry)) (now (y .entry)) i ⌝ }
+{
+    Sums {
+        s0: plus_product(sums.s0, x, y, i),
+        s1: plus_product(sums.s1, x, y, i + 1),
+        s2: plus_product(sums.s2, x, y, i + 2),
+        s3: plus_product(sums.s3, x, y, i + 3),
+        s4: plus_product(sums.s4, x, y, i + 4),
+        s5: plus_product(sums.s5, x, y, i + 5),
+        s6: plus_product(sums.s6, x, y, i + 6),
+        s7: plus_product(sums.s7, x, y, i + 7),
+    }
+}
+
+// The eight sums, added up in pairs.
+fn gather<T: Scalar>(sums: Sums<T>) -> T
+    ensures { λ r. ⌜ r ≡ gathered (T·Arithmetic .ops) sums ⌝ }
+{
+    let sum = T::zero().add(sums.s0.add(sums.s4));
+    let sum = sum.add(sums.s1.add(sums.s5));
+    let sum = sum.add(sums.s2.add(sums.s6));
+    sum.add(sums.s3.add(sums.s7))
+}
+
 // The dot product of the conjugate of x with y: eight running sums while eight entries are left, added up in
 // pairs, and then the entries that are left.
 pub(crate) fn dotc<T: Scalar>(x: &[T], y: &[T]) -> T
@@ -27,30 +73,13 @@ pub(crate) fn dotc<T: Scalar>(x: &[T], y: &[T]) -> T
     ensures { λ r. ⌜ r ≡ dotcOf (T·Arithmetic .ops) (now (x .entry)) (now (y .entry)) ⌝ }
 {
     let n = x.len();
-    let mut acc0 = T::zero();
-    let mut acc1 = T::zero();
-    let mut acc2 = T::zero();
-    let mut acc3 = T::zero();
-    let mut acc4 = T::zero();
-    let mut acc5 = T::zero();
-    let mut acc6 = T::zero();
-    let mut acc7 = T::zero();
+    let mut sums = no_sums();
     let mut i = 0;
     while n - i >= 8 {
-        acc0 = plus_product(acc0, x, y, i);
-        acc1 = plus_product(acc1, x, y, i + 1);
-        acc2 = plus_product(acc2, x, y, i + 2);
-        acc3 = plus_product(acc3, x, y, i + 3);
-        acc4 = plus_product(acc4, x, y, i + 4);
-        acc5 = plus_product(acc5, x, y, i + 5);
-        acc6 = plus_product(acc6, x, y, i + 6);
-        acc7 = plus_product(acc7, x, y, i + 7);
+        sums = eight_more(sums, x, y, i);
         i += 8;
     }
-    let mut sum = T::zero().add(acc0.add(acc4));
-    sum = sum.add(acc1.add(acc5));
-    sum = sum.add(acc2.add(acc6));
-    sum = sum.add(acc3.add(acc7));
+    let mut sum = gather(sums);
     for k in i..n {
         sum = plus_product(sum, x, y, k);
     }

@@ -16,7 +16,14 @@ fn side_refused(n: usize) -> bool
     n == 0 || n > 512
 }
 
-fn lengths_agree(n: usize, table: usize, values: usize, offs: usize, signs: usize, scratch: usize) -> bool
+fn lengths_agree(
+    n: usize,
+    table: usize,
+    values: usize,
+    offs: usize,
+    signs: usize,
+    scratch: usize,
+) -> bool
     requires some { ⌜ 0 < n ⌝ }
     requires few { ⌜ n ≤ 512 ⌝ }
     ensures { λ r. ⌜ r ≡ lengthsAgree n table values offs signs scratch ⌝ }
@@ -27,11 +34,15 @@ fn lengths_agree(n: usize, table: usize, values: usize, offs: usize, signs: usiz
 // The first entry whose size is not finite, by its row and column.
 fn entry_refused<T: Scalar>(n: usize, table: &[T]) -> Option<Fault>
     requires { ⌜ 0 < n ⌝ }
-    ensures { λ r. ⌜ refusalIn r ≡ entryRefusal (kind (T·Arithmetic .ops) (Real·Arithmetic .ops) (Real·RealScalar .real)) n 0 (now (table .entry)) ⌝ }
+    ensures { λ r. ⌜ refusalIn r ≡ entryRefusal (kind (T·Arithmetic .ops) (Real·Arithmetic .ops) (Real·RealScalar .real)) n 0
+        (now (table .entry)) ⌝ }
 {
     for k in 0..table.len() {
         if !table[k].size().is_finite() {
-            return Some(Fault::Entry { row: k % n, column: k / n });
+            return Some(Fault::Entry {
+                row: k % n,
+                column: k / n,
+            });
         }
     }
     None

@@ -21,9 +21,12 @@ pub(crate) struct Reported<T: Copy> {
 // Makes the column the axis of the reflection that leaves only its first entry.
 pub(crate) fn reflection_axis_mut<T: Scalar>(column: &mut [T]) -> Reported<T>
     requires { ⌜ 0 < length (now column) ⌝ }
-    ensures norm { λ r. ⌜ r .norm ≡ axisNorm (kind (T·Arithmetic .ops) (Real·Arithmetic .ops) (Real·RealScalar .real)) (now (column .entry)) ⌝ }
-    ensures reflects { λ r. ⌜ r .reflects ≡ axisReflects (kind (T·Arithmetic .ops) (Real·Arithmetic .ops) (Real·RealScalar .real)) (now (column .entry)) ⌝ }
-    ensures axis { λ _. ⌜ now (column .exit) ≡ axisOf (kind (T·Arithmetic .ops) (Real·Arithmetic .ops) (Real·RealScalar .real)) (now (column .entry)) ⌝ }
+    ensures norm { λ r. ⌜ r .norm ≡ axisNorm (kind (T·Arithmetic .ops) (Real·Arithmetic .ops) (Real·RealScalar .real))
+        (now (column .entry)) ⌝ }
+    ensures reflects { λ r. ⌜ r .reflects ≡ axisReflects (kind (T·Arithmetic .ops) (Real·Arithmetic .ops) (Real·RealScalar .real))
+        (now (column .entry)) ⌝ }
+    ensures axis { λ _. ⌜ now (column .exit) ≡ axisOf (kind (T·Arithmetic .ops) (Real·Arithmetic .ops) (Real·RealScalar .real))
+        (now (column .entry)) ⌝ }
 {
     let squared = norm_squared(column);
     let norm = squared.sqrt();
@@ -33,10 +36,16 @@ pub(crate) fn reflection_axis_mut<T: Scalar>(column: &mut [T]) -> Reported<T>
     let factor = squared.add(modulus.mul(norm)).mul(T::Real::literal_two());
     column[0] = first.add(signed_norm);
     if factor.is_zero() {
-        Reported { norm: signed_norm, reflects: false }
+        Reported {
+            norm: signed_norm,
+            reflects: false,
+        }
     } else {
         unscale(column, factor.sqrt());
         normalise(column);
-        Reported { norm: signed_norm.neg(), reflects: true }
+        Reported {
+            norm: signed_norm.neg(),
+            reflects: true,
+        }
     }
 }

@@ -1,11 +1,11 @@
 // The tridiagonal form of a symmetric or Hermitian table, and its matrix Q.
-
 mod blas;
 mod checks;
 mod householder;
 mod matrix_q;
 mod reduction;
 mod reflection;
+mod sums;
 mod symmetric_tridiagonal;
 
 pub use matrix_q::assemble;

@@ -5,7 +5,8 @@ ghost use lib.Dec.{eqb};
 ghost use Prim.Native.Nat.{_+_, _-_, _*_, _<_, _≤_};
 ghost use borrow.Rule.Slice.PartMut.{putMid};
 ghost use lib.ListN.{length, take, drop};
-ghost use Rattle.tridiagonal.specs.Assemble.{unitFrom, identityFrom, reflectedColumns, matrixQ, assembleLengths, assembleRefusal, refusedIn};
+ghost use Rattle.tridiagonal.specs.Assemble.{unitFrom, identityFrom, reflectedColumns, matrixQ};
+ghost use Rattle.tridiagonal.specs.Assemble.{assembleLengths, assembleRefusal, refusedIn};
 ghost use Rattle.tridiagonal.specs.Householder.{kind, reflected};
 ghost use Rattle.tridiagonal.specs.Outcome.{unlessRefused};
 ghost use Rattle.tridiagonal.specs.Tables.{lower};
@@ -51,6 +52,13 @@ fn identity<T: Scalar>(n: usize, q: &mut [T])
     }
 }
 
+// The sign that a reflection is applied with: the reported norm's own, which is -1 at -0, where the sign split gives 1.
+fn norm_sign<T: Scalar>(norm: T) -> T
+    ensures { λ r. ⌜ r ≡ T·Arithmetic .ops .sign norm ⌝ }
+{
+    norm.signum()
+}
+
 // Reflects column j, from row r down.
 fn reflect_column<T: Scalar>(q: &mut [T], n: usize, j: usize, r: usize, axis: &[T], sign: T)
     requires rows { ⌜ r ≤ n ⌝ }
@@ -58,7 +66,7 @@ fn reflect_column<T: Scalar>(q: &mut [T], n: usize, j: usize, r: usize, axis: &[
     requires as_axis { ⌜ length (now axis) ≡ n - r ⌝ }
     ensures { λ _. ⌜ now (q .exit) ≡ putMid (j * n + r) (j * n + n - (j * n + r)) (now (q .entry))
         (reflected (kind (T·Arithmetic .ops) (Real·Arithmetic .ops) (Real·RealScalar .real)) (now (axis .entry)) sign
-            (take (n - r) (drop (j * n + r) (now (q .entry))))) ⌝ }
+        (take (n - r) (drop (j * n + r) (now (q .entry))))) ⌝ }
 {
     reflect_with_sign(axis, &mut q[j * n + r..j * n + n], sign);
 }
@@ -89,7 +97,14 @@ fn assemble_q<T: Scalar>(n: usize, table: &[T], signs: &[T], q: &mut [T])
     let mut i = n - 1;
     while i > 0 {
         i -= 1;
-        reflect_columns(&mut q[i * n..], n, i + 1, n - i, column(table, n, i, i + 1), signs[i].signum());
+        reflect_columns(
+            &mut q[i * n..],
+            n,
+            i + 1,
+            n - i,
+            column(table, n, i, i + 1),
+            norm_sign(signs[i]),
+        );
     }
 }
 
@@ -102,14 +117,19 @@ fn lengths_agree(n: usize, table: usize, signs: usize, q: usize) -> bool
 }
 
 // Fills q with the matrix Q of a reduction, from the table and the signs that it left. The reduction stays usable.
-pub fn assemble<T: Scalar>(reduction: &Reduction<T::Real>, table: &[T], signs: &[T], q: &mut [T]) -> Result<(), Fault>
+pub fn assemble<T: Scalar>(
+    reduction: &Reduction<T::Real>,
+    table: &[T],
+    signs: &[T],
+    q: &mut [T],
+) -> Result<(), Fault>
     ensures answer { λ r. ⌜ refusedIn r ≡ assembleRefusal (now (reduction .entry) .side) (now (table .entry)) (now (signs .entry))
         (now (q .entry)) ⌝ }
     ensures q { λ _. ⌜ now (q .exit) ≡ unlessRefused
         (assembleRefusal (now (reduction .entry) .side) (now (table .entry)) (now (signs .entry)) (now (q .entry)))
         (now (q .entry))
         (matrixQ (kind (T·Arithmetic .ops) (Real·Arithmetic .ops) (Real·RealScalar .real)) (now (reduction .entry) .side)
-            (lower (now (reduction .entry) .side) 0 (now (reduction .entry) .side) (now (table .entry))) (now (signs .entry))) ⌝ }
+        (lower (now (reduction .entry) .side) 0 (now (reduction .entry) .side) (now (table .entry))) (now (signs .entry))) ⌝ }
 {
     let n = reduction.side();
     if lengths_agree(n, table.len(), signs.len(), q.len()) {

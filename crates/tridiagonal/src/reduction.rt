@@ -21,7 +21,7 @@ impl<R: Copy> Reduction<R> {
     }
 
     pub fn largest(&self) -> R
-        ensures { λ r. ⌜ r ≡ now (self .entry) .largest ⌝ }
+        ensures value { λ r. ⌜ r ≡ now (self .entry) .largest ⌝ }
     {
         self.largest
     }

@@ -11,7 +11,8 @@ use scalar::Scalar;
 // Reflects the column at the plane through zero across the axis, and multiplies it by the sign.
 pub(crate) fn reflect_with_sign<T: Scalar>(axis: &[T], column: &mut [T], sign: T)
     requires { ⌜ length (now axis) ≡ length (now column) ⌝ }
-    ensures { λ _. ⌜ now (column .exit) ≡ reflected (kind (T·Arithmetic .ops) (Real·Arithmetic .ops) (Real·RealScalar .real)) (now (axis .entry)) sign (now (column .entry)) ⌝ }
+    ensures { λ _. ⌜ now (column .exit) ≡ reflected (kind (T·Arithmetic .ops) (Real·Arithmetic .ops) (Real·RealScalar .real))
+        (now (axis .entry)) sign (now (column .entry)) ⌝ }
 {
     let minus_two = sign.scale(T::Real::literal_minus_two());
     let factor = dotc(axis, column).sub(T::zero()).mul(minus_two);

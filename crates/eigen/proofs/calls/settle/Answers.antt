@@ -22,7 +22,7 @@ returns-in-Ok g c =
         renamed o p q (c .side-side .result) (c .args .reduction .side) (c .largest-largest .result) (c .args .reduction .largest)
             (c .args .values .now) (c .args .offs .now) (c .args .tolerance) kept (c .args .limit) (given (c .in-Ok .passes)) (given (c .in-Ok .passes))
             (c .settle-parts .last .values) (c .settle-parts .last .offs) after
-            (c .side-side .ensures .value) (c .largest-largest .ensures) refl (c .in-Ok .ensures tt .run) in
+            (c .side-side .ensures .value) (c .largest-largest .ensures .value) refl (c .in-Ok .ensures tt .run) in
     record {
       handed-back = spent (checkOf p q (length (c .args .values .now)) (length (c .args .offs .now)) (c .args .tolerance) (c .args .limit)
         (kept .width) (c .args .reduction .side)) (c .args .reduction .side) (c .args .reduction .largest)
@@ -31,7 +31,7 @@ returns-in-Ok g c =
       run = r;
       any-keeper = λ t e like other. any-keeper o p q s t (c .args .limit) f e r like other;
       any-upper = any-upper o p q s (c .args .limit) f r;
-      any-limit = λ passes m t e is like ok other. limits o p q s t (c .args .limit) m passes f e r is like ok other;
+      any-limit = λ passes m t e is like other. limits o p q s t (c .args .limit) m passes f e r is like other;
     }
 
 pub returns-in-Refused : need.returns-in-Refused
@@ -45,7 +45,7 @@ returns-in-Refused g c =
         renamed o p q (c .side-side .result) (c .args .reduction .side) (c .largest-largest .result) (c .args .reduction .largest)
             (c .args .values .now) (c .args .offs .now) (c .args .tolerance) kept (c .args .limit) (outcome (Err (c .in-Err .why))) (denied (refusal (c .in-Refused .fault)))
             (c .settle-parts .last .values) (c .settle-parts .last .offs) after
-            (c .side-side .ensures .value) (c .largest-largest .ensures) (ap (λ (w : Stopped). outcome (Err w)) (c .in-Refused .is)) (c .in-Err .ensures tt .run) in
+            (c .side-side .ensures .value) (c .largest-largest .ensures .value) (ap (λ (w : Stopped). outcome (Err w)) (c .in-Refused .is)) (c .in-Err .ensures tt .run) in
     record {
       handed-back = returned (checkOf p q (length (c .args .values .now)) (length (c .args .offs .now)) (c .args .tolerance) (c .args .limit)
         (kept .width) (c .args .reduction .side)) (c .args .reduction .side) (c .args .reduction .largest)
@@ -54,7 +54,7 @@ returns-in-Refused g c =
       run = r;
       any-keeper = λ t e like other. any-keeper o p q s t (c .args .limit) f e r like other;
       any-upper = any-upper o p q s (c .args .limit) f r;
-      any-limit = λ passes m t e is like ok other. limits o p q s t (c .args .limit) m passes f e r is like ok other;
+      any-limit = λ passes m t e is like other. limits o p q s t (c .args .limit) m passes f e r is like other;
     }
 
 pub returns-in-Ended : need.returns-in-Ended
@@ -68,7 +68,7 @@ returns-in-Ended g c =
         renamed o p q (c .side-side .result) (c .args .reduction .side) (c .largest-largest .result) (c .args .reduction .largest)
             (c .args .values .now) (c .args .offs .now) (c .args .tolerance) kept (c .args .limit) (outcome (Err (c .in-Err .why))) (denied (refusal (c .in-Ended .fault)))
             (c .settle-parts .last .values) (c .settle-parts .last .offs) after
-            (c .side-side .ensures .value) (c .largest-largest .ensures) (ap (λ (w : Stopped). outcome (Err w)) (c .in-Ended .is)) (c .in-Err .ensures tt .run) in
+            (c .side-side .ensures .value) (c .largest-largest .ensures .value) (ap (λ (w : Stopped). outcome (Err w)) (c .in-Ended .is)) (c .in-Err .ensures tt .run) in
     record {
       handed-back = spent (checkOf p q (length (c .args .values .now)) (length (c .args .offs .now)) (c .args .tolerance) (c .args .limit)
         (kept .width) (c .args .reduction .side)) (c .args .reduction .side) (c .args .reduction .largest)
@@ -77,5 +77,5 @@ returns-in-Ended g c =
       run = r;
       any-keeper = λ t e like other. any-keeper o p q s t (c .args .limit) f e r like other;
       any-upper = any-upper o p q s (c .args .limit) f r;
-      any-limit = λ passes m t e is like ok other. limits o p q s t (c .args .limit) m passes f e r is like ok other;
+      any-limit = λ passes m t e is like other. limits o p q s t (c .args .limit) m passes f e r is like other;
     }

@@ -7,7 +7,7 @@ use Rattle.eigen.proofs.delimit.end_from.Given as given
 abbrev pub Inv-loop-last : given.InvT-loop-last
 Inv-loop-last g l =
     (fallTo (above (g .R·Arithmetic .ops) (g .R·RealScalar .real) (l .tolerance) (l .values) (l .offs)) (l .last)
-        ≡ fallTo (above (g .R·Arithmetic .ops) (g .R·RealScalar .real) (l .tolerance) (l .values) (l .offs)) (l .end))
+    ≡ fallTo (above (g .R·Arithmetic .ops) (g .R·RealScalar .real) (l .tolerance) (l .values) (l .offs)) (l .end))
     × (l .last ≤ l .end)
 
 abbrev pub μ-loop-last : given.MeasureT-loop-last

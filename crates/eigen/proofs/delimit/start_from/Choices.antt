@@ -7,7 +7,7 @@ use Rattle.eigen.proofs.delimit.start_from.Given as given
 abbrev pub Inv-loop-first : given.InvT-loop-first
 Inv-loop-first g l =
     (fallTo (negligible (g .R·Arithmetic .ops) (g .R·RealScalar .real) (l .tolerance) (l .values) (l .offs)) (l .first)
-        ≡ fallTo (negligible (g .R·Arithmetic .ops) (g .R·RealScalar .real) (l .tolerance) (l .values) (l .offs)) (l .start))
+    ≡ fallTo (negligible (g .R·Arithmetic .ops) (g .R·RealScalar .real) (l .tolerance) (l .values) (l .offs)) (l .start))
     × (l .first ≤ l .start)
 
 abbrev pub μ-loop-first : given.MeasureT-loop-first

@@ -13,10 +13,12 @@ map-all f xs ys i h e = e ∙ ap₂ (λ ps qs. map f ps ++ qs) (take-all i xs h)
 pub loop-value-again : need.loop-value-again
 loop-value-again g c =
     ap (set (c .loop-value .values) (c .loop-value .value-index))
-      (c .scale .ensures .value ∙ ap (λ v. g .R·Arithmetic .ops .scale v (c .args .largest)) (sym (c .value-item .is)))
+    (c .scale .ensures .value ∙ ap (λ v. g .R·Arithmetic .ops .scale v (c .args .largest)) (sym (c .value-item .is)))
     ∙ map-over-more (λ v. g .R·Arithmetic .ops .scale v (c .args .largest)) (c .args .values .now) (c .loop-value .values)
-        (c .loop-value .value-index) (c .value-item .result) (c .loop-value-test .taken) (c .loop-value .inv) (c .value-item .is)
+    (c .loop-value .value-index) (c .value-item .result) (c .loop-value-test .taken) (c .loop-value .inv) (c .value-item .is)
 
 pub returns : need.returns
-returns g c = record { values = map-all _ (c .args .values .now) (c .loop-value .values) (c .loop-value .value-index)
-  (c .loop-value-test .left) (c .loop-value .inv) }
+returns g c = record {
+  values = map-all _ (c .args .values .now) (c .loop-value .values) (c .loop-value .value-index)
+      (c .loop-value-test .left) (c .loop-value .inv);
+}

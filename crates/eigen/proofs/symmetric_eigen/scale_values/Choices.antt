@@ -5,4 +5,5 @@ use Rattle.eigen.proofs.symmetric_eigen.scale_values.Given as given
 
 abbrev pub Inv-loop-value : given.InvT-loop-value
 Inv-loop-value g l =
-    l .values ≡ map (λ v. g .R·Arithmetic .ops .scale v (l .largest)) (take (l .value-index) (l .entry .values)) ++ drop (l .value-index) (l .entry .values)
+    l .values ≡ map (λ v. g .R·Arithmetic .ops .scale v (l .largest)) (take (l .value-index) (l .entry .values)) ++ drop
+    (l .value-index) (l .entry .values)

@@ -6,4 +6,4 @@ use Rattle.tridiagonal.proofs.blas.axpy_column.Needs as need
 
 pub offset-t-j : need.offset-t-j
 offset-t-j g c =
-  let within : c .args .j * c .args .n + c .args .r ≤ length (c .args .t .now) = omega arith in search (needs, scaled-fits≤)
+    let within : c .args .j * c .args .n + c .args .r ≤ length (c .args .t .now) = omega arith in search (needs, scaled-fits≤)

@@ -7,9 +7,9 @@ use Rattle.tridiagonal.proofs.blas.dotc.Given as given
 -- What is left, with the sums so far, gives the whole.
 abbrev pub Inv-loop-i : given.InvT-loop-i
 Inv-loop-i g l =
-  (l .i ≤ l .n) ×
-  (dotcFrom (g .T·Arithmetic .ops) ((l .n - l .i) / 8)
-    (record { s0 = l .acc0; s1 = l .acc1; s2 = l .acc2; s3 = l .acc3; s4 = l .acc4; s5 = l .acc5; s6 = l .acc6; s7 = l .acc7 })
+    (l .i ≤ l .n) ×
+    (dotcFrom (g .T·Arithmetic .ops) ((l .n - l .i) / 8)
+    (l .sums)
     (drop (l .i) (l .x)) (drop (l .i) (l .y)) ≡ dotcOf (g .T·Arithmetic .ops) (l .x) (l .y))
 
 abbrev pub μ-loop-i : given.MeasureT-loop-i
@@ -17,5 +17,5 @@ abbrev pub μ-loop-i : given.MeasureT-loop-i
 
 abbrev pub Inv-loop-k : given.InvT-loop-k
 Inv-loop-k g l =
-  plusProducts (g .T·Arithmetic .ops) (l .sum) (drop (l .k) (l .x)) (drop (l .k) (l .y)) ≡
+    plusProducts (g .T·Arithmetic .ops) (l .sum) (drop (l .k) (l .x)) (drop (l .k) (l .y)) ≡
     dotcOf (g .T·Arithmetic .ops) (l .x) (l .y)

@@ -6,5 +6,5 @@ use Rattle.tridiagonal.proofs.blas.unscale.Given as given
 
 abbrev pub Inv-loop-i : given.InvT-loop-i
 Inv-loop-i g l =
-  take (l .i) (l .x) ++ unscaled (g .T·Arithmetic .ops) (l .divisor) (drop (l .i) (l .x)) ≡
+    take (l .i) (l .x) ++ unscaled (g .T·Arithmetic .ops) (l .divisor) (drop (l .i) (l .x)) ≡
     unscaled (g .T·Arithmetic .ops) (l .divisor) (l .entry .x)

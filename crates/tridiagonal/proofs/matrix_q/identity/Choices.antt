@@ -8,6 +8,6 @@ use Rattle.tridiagonal.proofs.matrix_q.identity.Given as given
 
 abbrev pub Inv-loop-j : given.InvT-loop-j
 Inv-loop-j g l =
-  take (l .j * l .n) (l .q) ++
+    take (l .j * l .n) (l .q) ++
     identityFrom (kind (g .T·Arithmetic .ops) (g .Real·Arithmetic .ops) (g .Real·RealScalar .real)) (l .n) (l .j) (l .n - l .j) ≡
-  identityFrom (kind (g .T·Arithmetic .ops) (g .Real·Arithmetic .ops) (g .Real·RealScalar .real)) (l .n) 0 (l .n)
+    identityFrom (kind (g .T·Arithmetic .ops) (g .Real·Arithmetic .ops) (g .Real·RealScalar .real)) (l .n) 0 (l .n)

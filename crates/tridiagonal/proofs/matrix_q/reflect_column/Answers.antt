@@ -6,4 +6,4 @@ use Rattle.tridiagonal.proofs.matrix_q.reflect_column.Needs as need
 
 pub offset-q-j : need.offset-q-j
 offset-q-j g c =
-  let within : c .args .j * c .args .n + c .args .r ≤ length (c .args .q .now) = omega arith in search (needs, scaled-fits≤)
+    let within : c .args .j * c .args .n + c .args .r ≤ length (c .args .q .now) = omega arith in search (needs, scaled-fits≤)

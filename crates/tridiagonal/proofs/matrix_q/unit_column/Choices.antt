@@ -8,6 +8,6 @@ use Rattle.tridiagonal.proofs.matrix_q.unit_column.Given as given
 
 abbrev pub Inv-loop-i : given.InvT-loop-i
 Inv-loop-i g l =
-  take (l .i) (l .column) ++
+    take (l .i) (l .column) ++
     unitFrom (kind (g .T·Arithmetic .ops) (g .Real·Arithmetic .ops) (g .Real·RealScalar .real)) (l .j) (l .i) (length (l .entry .column) - l .i) ≡
-  unitFrom (kind (g .T·Arithmetic .ops) (g .Real·Arithmetic .ops) (g .Real·RealScalar .real)) (l .j) 0 (length (l .entry .column))
+    unitFrom (kind (g .T·Arithmetic .ops) (g .Real·Arithmetic .ops) (g .Real·RealScalar .real)) (l .j) 0 (length (l .entry .column))

@@ -6,5 +6,5 @@ use Rattle.tridiagonal.proofs.symmetric_tridiagonal.largest_size.Given as give
 
 abbrev pub Inv-loop-i : given.InvT-loop-i
 Inv-loop-i g l =
-  largestFrom (kind (g .T·Arithmetic .ops) (g .Real·Arithmetic .ops) (g .Real·RealScalar .real)) (l .largest) (drop (l .i) (l .table)) ≡
+    largestFrom (kind (g .T·Arithmetic .ops) (g .Real·Arithmetic .ops) (g .Real·RealScalar .real)) (l .largest) (drop (l .i) (l .table)) ≡
     largestSize (kind (g .T·Arithmetic .ops) (g .Real·Arithmetic .ops) (g .Real·RealScalar .real)) (l .table)

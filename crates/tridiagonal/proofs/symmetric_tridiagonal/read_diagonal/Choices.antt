@@ -9,7 +9,7 @@ use Rattle.tridiagonal.proofs.symmetric_tridiagonal.read_diagonal.Given as giv
 
 abbrev pub Inv-loop-i : given.InvT-loop-i
 Inv-loop-i g l =
-  take (l .i) (l .values) ++
+    take (l .i) (l .values) ++
     diagonal (kind (g .T·Arithmetic .ops) (g .Real·Arithmetic .ops) (g .Real·RealScalar .real))
-      (lower (l .n) (l .i) (l .n - l .i) (drop (l .i * l .n) (l .table))) ≡
-  diagonal (kind (g .T·Arithmetic .ops) (g .Real·Arithmetic .ops) (g .Real·RealScalar .real)) (lower (l .n) 0 (l .n) (l .table))
+    (lower (l .n) (l .i) (l .n - l .i) (drop (l .i * l .n) (l .table))) ≡
+    diagonal (kind (g .T·Arithmetic .ops) (g .Real·Arithmetic .ops) (g .Real·RealScalar .real)) (lower (l .n) 0 (l .n) (l .table))
