@@ -1,12 +1,12 @@
 // The numbers that tables are drawn from: splitmix64, and a hash of the bits that come out.
 
 #[derive(Drop)]
-pub struct Random {
+pub(crate) struct Random {
     state: u64,
 }
 
 impl Random {
-    pub fn new(seed: u64) -> Random {
+    pub(crate) fn new(seed: u64) -> Random {
         Random { state: seed }
     }
 
@@ -19,24 +19,24 @@ impl Random {
     }
 
     // A number from -1 up to 1, of 53 binary digits.
-    pub fn unit_f64(&mut self) -> f64 {
+    pub(crate) fn unit_f64(&mut self) -> f64 {
         std::num::nearest_u64_to_f64(self.next() >> 11) / 4503599627370496.0 - 1.0
     }
 
     // A number from -1 up to 1, of 24 binary digits.
-    pub fn unit_f32(&mut self) -> f32 {
+    pub(crate) fn unit_f32(&mut self) -> f32 {
         std::num::nearest_u64_to_f32(self.next() >> 40) / 8388608.0 - 1.0
     }
 }
 
 // FNV-1a over the little-endian bytes of the bits.
 #[derive(Clone, Copy)]
-pub struct Hash {
-    pub state: u64,
+pub(crate) struct Hash {
+    pub(crate) state: u64,
 }
 
 impl Hash {
-    pub fn new() -> Hash {
+    pub(crate) fn new() -> Hash {
         Hash { state: 0xCBF2_9CE4_8422_2325 }
     }
 
@@ -44,7 +44,7 @@ impl Hash {
         Hash { state: (self.state ^ u64::from(b)).wrapping_mul(0x100_0000_01B3) }
     }
 
-    pub fn wide(self, bits: u64) -> Hash {
+    pub(crate) fn wide(self, bits: u64) -> Hash {
         let mut h = self;
         for b in bits.to_le_bytes() {
             h = h.byte(b);
@@ -52,7 +52,7 @@ impl Hash {
         h
     }
 
-    pub fn narrow(self, bits: u32) -> Hash {
+    pub(crate) fn narrow(self, bits: u32) -> Hash {
         let mut h = self;
         for b in bits.to_le_bytes() {
             h = h.byte(b);

@@ -14,7 +14,7 @@ use scalar::F32Scalar;
 use scalar::F64RealScalar;
 use scalar::F64Scalar;
 
-pub trait Sample: Scalar {
+pub(crate) trait Sample: Scalar {
     fn draw(random: &mut Random, diagonal: bool) -> Self;
 
     // 2^-k, for a k below 127

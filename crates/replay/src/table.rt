@@ -5,7 +5,7 @@ use std::alloc::AllocError;
 use std::alloc::Global;
 
 #[derive(Clone, Copy)]
-pub enum Shape {
+pub(crate) enum Shape {
     Dense,
     // zero below the first subdiagonal
     Banded,
@@ -14,7 +14,7 @@ pub enum Shape {
 }
 
 #[derive(Clone, Copy)]
-pub struct Case {
+pub(crate) struct Case {
     pub side: usize,
     pub seed: u64,
     // whether the entries above the diagonal are drawn too, and not the conjugates
@@ -62,7 +62,7 @@ fn fill_above<T: Sample>(cells: &mut [T], random: &mut Random, side: usize, colu
     }
 }
 
-pub fn drawn<T: Sample>(heap: Global, case: Case) -> Result<Vec<T>, AllocError> {
+pub(crate) fn drawn<T: Sample>(heap: Global, case: Case) -> Result<Vec<T>, AllocError> {
     let mut random = Random::new(case.seed);
     let mut cells = filled(heap, case.side.wrapping_mul(case.side), T::zero())?;
     for column in 0..case.side {
@@ -76,7 +76,7 @@ pub fn drawn<T: Sample>(heap: Global, case: Case) -> Result<Vec<T>, AllocError> 
     Ok(cells)
 }
 
-pub fn filled<T: Copy>(heap: Global, count: usize, x: T) -> Result<Vec<T>, AllocError> {
+pub(crate) fn filled<T: Copy>(heap: Global, count: usize, x: T) -> Result<Vec<T>, AllocError> {
     let mut cells = Vec::new(heap);
     for _ in 0..count {
         cells.push(x)?;
