@@ -36,9 +36,9 @@ fn zeros(heap: Global, count: usize) -> Result<Vec<f64>, AllocError> {
     Ok(list)
 }
 
-// The table (2 1 0)(1 3 1)(0 1 4), reduced and assembled.
+// The table (2 1 1)(1 3 1)(1 1 4), reduced and assembled.
 fn reduced(heap: Global) -> Result<Result<Form, Fault>, AllocError> {
-    let mut table = vec![in heap; 2.0, 1.0, 0.0, 1.0, 3.0, 1.0, 0.0, 1.0, 4.0]?;
+    let mut table = vec![in heap; 2.0, 1.0, 1.0, 1.0, 3.0, 1.0, 1.0, 1.0, 4.0]?;
     let mut values = zeros(heap, 3)?;
     let mut offs = zeros(heap, 2)?;
     let mut signs = zeros(heap, 2)?;
