@@ -75,7 +75,13 @@ fn print_rows<K: Keeper<f64>>(rt: &LibcRuntime, keeper: &K) -> Result<(), AnyErr
     Ok(())
 }
 
-fn run<K: Keeper<f64>>(rt: &LibcRuntime, reduction: Reduction<f64>, values: &mut [f64], offs: &mut [f64], keeper: &mut K) -> Result<(), AnyError> {
+fn run<K: Keeper<f64>>(
+    rt: &LibcRuntime,
+    reduction: Reduction<f64>,
+    values: &mut [f64],
+    offs: &mut [f64],
+    keeper: &mut K,
+) -> Result<(), AnyError> {
     match settle::<f64, K>(reduction, values, offs, keeper, 2.220446049250313e-16, 1000) {
         Ok(passes) => println!(rt, "passes {passes}")?,
         Err(why) => {
