@@ -1,4 +1,6 @@
 // The proved cases, as one table under one theorem.
+#![tactic(auto)]
+
 ghost use Rattle.std.specs.Prelude.{◌≡◌, length};
 ghost use Rattle.cases.specs.Cases.{Hold, cases};
 

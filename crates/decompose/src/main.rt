@@ -1,5 +1,7 @@
 // Reduces, assembles and settles one real table: with all rows of Q, and then with both of two keepers, the rows of Q
 // and those of the identity.
+#![tactic(auto)]
+
 use eigen::{Unsettled, settle};
 use fault::Fault;
 use rows::{AllRows, Both, Keeper};

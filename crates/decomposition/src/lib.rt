@@ -1,4 +1,6 @@
 // The eigendecomposition of one table: reduce, assemble and settle in one call, with buffers of its own.
+#![tactic(auto)]
+
 mod buffers;
 mod failure;
 mod form;

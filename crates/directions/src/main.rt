@@ -1,4 +1,6 @@
 // Reads a sheet from standard input and prints its listing.
+#![tactic(auto)]
+
 use anyhow::anyhow;
 use sheet::list_sheet;
 use std::io::Read;

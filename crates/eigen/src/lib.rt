@@ -1,4 +1,6 @@
 // The eigenvalues of a symmetric tridiagonal matrix, and the rows that are turned along.
+#![tactic(auto)]
+
 mod calls;
 mod cells;
 mod chase;

@@ -1,4 +1,6 @@
 // One table of a sheet while it is typed.
+#![tactic(auto)]
+
 mod calls;
 mod checks;
 mod job;

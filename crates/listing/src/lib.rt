@@ -1,4 +1,6 @@
 // What a sheet lists: its tables, each solved in its turn, line by line, and the text of that.
+#![tactic(auto)]
+
 mod line;
 mod list;
 mod listing;

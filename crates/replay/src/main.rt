@@ -1,5 +1,7 @@
 // Runs the library on seeded tables and prints a hash of each list that comes out, for comparison with nalgebra's
 // answers, which are the expected output of this program.
+#![tactic(auto)]
+
 mod random;
 mod sample;
 mod table;

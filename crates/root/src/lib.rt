@@ -1,4 +1,6 @@
 //! The square root of binary64 and binary32, correctly rounded, drawn a binary digit at a time in whole numbers.
+#![tactic(auto)]
+
 mod bits;
 mod digits;
 mod layout;

@@ -1,4 +1,6 @@
 //! Compares the root with the library's, bit by bit: on a table of hard cases, and on a run of seeded words.
+#![tactic(auto)]
+
 mod table;
 
 ghost use Rattle.std.specs.Prelude.{◌≡◌, ◌+◌, ◌*◌, ◌≤◌};

@@ -1,4 +1,6 @@
 // Row keepers.
+#![tactic(auto)]
+
 mod all_rows;
 mod both;
 mod cases;

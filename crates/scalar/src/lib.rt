@@ -1,4 +1,6 @@
 // Number kinds: the traits, binary64, binary32, and complex numbers over any real kind.
+#![tactic(auto)]
+
 mod binary32;
 mod binary64;
 mod complex;

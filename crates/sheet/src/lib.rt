@@ -1,4 +1,6 @@
 // Sheets: the commands that type tables of numbers, and what a sheet closes or refuses.
+#![tactic(auto)]
+
 mod apply;
 mod bytes;
 mod command;

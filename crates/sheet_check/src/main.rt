@@ -1,4 +1,6 @@
 // Lists each sheet of a table: a line of hexadecimal digits is one sheet, and a line of the output its listing.
+#![tactic(auto)]
+
 ghost use Rattle.std.specs.Prelude.{◌<◌};
 
 use anyhow::anyhow;

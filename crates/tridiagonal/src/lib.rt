@@ -1,4 +1,6 @@
 // The tridiagonal form of a symmetric or Hermitian table, and its matrix Q.
+#![tactic(auto)]
+
 mod blas;
 mod checks;
 mod householder;
