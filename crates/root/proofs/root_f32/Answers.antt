@@ -4,5 +4,5 @@ use Rattle.root.proofs.root_f32.Goals as goal
 
 pub returns : goal.returns
 returns c =
-    let a = answered binary32 c.args.v c.drawn-f32.result c.well-formed.0.1 c.drawn-f32.ensures in
+    let a = answered binary32 c.args.v c.drawn_f32.result c.well_formed.0.1 c.drawn_f32.ensures in
     record { value = a.value; defined = a.defined; only = a.only }

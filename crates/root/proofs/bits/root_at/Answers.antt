@@ -6,27 +6,27 @@ use Rattle.root.specs.Layout.{format_of}
 use Rattle.root.proofs.Windows.{bounds, high_is, whole_is}
 use Rattle.root.proofs.bits.root_at.Goals as goal
 
-pub overflow-add-place : goal.overflow-add-place
-overflow-add-place c = let f = format_of c.args.width in omega (arith, bounds f, size-le c.args.m (prec f) c.requires.few)
+pub overflow_add-place : goal.overflow_add-place
+overflow_add-place c = let f = format_of c.args.width in omega (arith, bounds f, size-le c.args.m (prec f) c.requires.few)
 
-pub overflow-add-place-2 : goal.overflow-add-place-2
-overflow-add-place-2 c = let f = format_of c.args.width in omega (arith, bounds f, size-le c.args.m (prec f) c.requires.few)
+pub overflow_add-place-2 : goal.overflow_add-place-2
+overflow_add-place-2 c = let f = format_of c.args.width in omega (arith, bounds f, size-le c.args.m (prec f) c.requires.few)
 
-pub overflow-mul-result : goal.overflow-mul-result
-overflow-mul-result c =
+pub overflow_mul-result : goal.overflow_mul-result
+overflow_mul-result c =
     let f = format_of c.args.width in
     let m = c.args.m in
     let i = c.args.i in
-    let e = high_is f c.layout-of-layout.result c.layout-of-layout.ensures m i c.size-of.result c.size-of.ensures in
+    let e = high_is f c.layout_of-layout.result c.layout_of-layout.ensures m i c.size_of.result c.size_of.ensures in
     omega (arith, (bounds f).patterns, e, root_at_lt f m i c.requires.some c.requires.few c.requires.fine)
 
-pub overflow-add-result : goal.overflow-add-result
-overflow-add-result c =
+pub overflow_add-result : goal.overflow_add-result
+overflow_add-result c =
     let f = format_of c.args.width in
     let m = c.args.m in
     let i = c.args.i in
-    let e = whole_is f c.layout-of-layout.result c.layout-of-layout.ensures m i c.size-of.result c.size-of.ensures
-    c.window-of.result c.nearest-root.result c.requires.few c.window-of.ensures c.nearest-root.ensures in
+    let e = whole_is f c.layout_of-layout.result c.layout_of-layout.ensures m i c.size_of.result c.size_of.ensures
+    c.window_of.result c.nearest_root.result c.requires.few c.window_of.ensures c.nearest_root.ensures in
     omega (arith, (bounds f).patterns, e, root_at_lt f m i c.requires.some c.requires.few c.requires.fine)
 
 pub returns : goal.returns
@@ -34,6 +34,6 @@ returns c =
     let f = format_of c.args.width in
     let m = c.args.m in
     let i = c.args.i in
-    let e = whole_is f c.layout-of-layout.result c.layout-of-layout.ensures m i c.size-of.result c.size-of.ensures
-    c.window-of.result c.nearest-root.result c.requires.few c.window-of.ensures c.nearest-root.ensures in
+    let e = whole_is f c.layout_of-layout.result c.layout_of-layout.ensures m i c.size_of.result c.size_of.ensures
+    c.window_of.result c.nearest_root.result c.requires.few c.window_of.ensures c.nearest_root.ensures in
     record { pattern = e; finite = omega (arith, e, root_at_lt f m i c.requires.some c.requires.few c.requires.fine) }

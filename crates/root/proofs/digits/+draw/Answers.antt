@@ -11,29 +11,29 @@ step : (t : ℕ) (c : goal.After-digit-next t)
 step t c =
     stepped c.args.root (4 * c.args.rest + c.args.window / 2 ^ 62) c.digit-next.result (omega arith) c.digit-next.ensures
 
-pub overflow-mul-tail : goal.overflow-mul-tail
-overflow-mul-tail t c = omega (arith, room t c)
+pub overflow_mul-tail : goal.overflow_mul-tail
+overflow_mul-tail t c = omega (arith, room t c)
 
-pub overflow-add-tail : goal.overflow-add-tail
-overflow-add-tail t c = omega (arith, room t c)
+pub overflow_add-tail : goal.overflow_add-tail
+overflow_add-tail t c = omega (arith, room t c)
 
 pub digit-next-requires : goal.digit-next-requires
 digit-next-requires t c = omega (arith, room t c)
 
-pub overflow-mul-root : goal.overflow-mul-root
-overflow-mul-root t c = omega (arith, small c.args.root c.args.left (omega arith) c.requires.1)
+pub overflow_mul-root : goal.overflow_mul-root
+overflow_mul-root t c = omega (arith, small c.args.root c.args.left (omega arith) c.requires.1)
 
-pub overflow-add-root : goal.overflow-add-root
-overflow-add-root t c = omega (arith, small c.args.root c.args.left (omega arith) c.requires.1, step t c)
+pub overflow_add-root : goal.overflow_add-root
+overflow_add-root t c = omega (arith, small c.args.root c.args.left (omega arith) c.requires.1, step t c)
 
-pub overflow-mul-root-2 : goal.overflow-mul-root-2
-overflow-mul-root-2 t c = omega (arith, small c.args.root c.args.left (omega arith) c.requires.1)
+pub overflow_mul-root-2 : goal.overflow_mul-root-2
+overflow_mul-root-2 t c = omega (arith, small c.args.root c.args.left (omega arith) c.requires.1)
 
-pub overflow-add-root-2 : goal.overflow-add-root-2
-overflow-add-root-2 t c = omega (arith, small c.args.root c.args.left (omega arith) c.requires.1)
+pub overflow_add-root-2 : goal.overflow_add-root-2
+overflow_add-root-2 t c = omega (arith, small c.args.root c.args.left (omega arith) c.requires.1)
 
-pub overflow-mul-next : goal.overflow-mul-next
-overflow-mul-next t c = let h = (step t c).ranges in omega (arith, small c.args.root c.args.left (omega arith) c.requires.1)
+pub overflow_mul-next : goal.overflow_mul-next
+overflow_mul-next t c = let h = (step t c).fits in omega (arith, small c.args.root c.args.left (omega arith) c.requires.1)
 
 pub draw-requires : goal.draw-requires
 draw-requires t c =
