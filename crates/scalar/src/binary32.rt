@@ -122,8 +122,13 @@ impl RealScalar for f32 {
         root::root_f32(self)
     }
 
+    // The library's `max` leaves open which of two zeros it gives.
     fn larger(self, other: f32) -> f32 {
-        self.max(other)
+        if other <= self || other.is_nan() {
+            self
+        } else {
+            other
+        }
     }
 
     fn is_finite(self) -> bool {

@@ -5,6 +5,6 @@ use Rattle.scalar.proofs.binary32.F32RealScalar.abs.Goals as goal
 pub returns : goal.returns
 returns c = record {
   value = c.absolute.ensures.value;
-  sized = float_sized binary32 c.args.self c.absolute.result c.absolute.type-inv c.absolute.ensures.value;
+  sized = float_sized binary32 c.args.self c.absolute.result c.absolute.type_inv c.absolute.ensures.value;
   laws = float_laws binary32;
 }
