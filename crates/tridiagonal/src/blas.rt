@@ -137,7 +137,7 @@ pub(crate) fn unscale<T: Scalar>(x: &mut [T], divisor: T::Real)
 }
 
 pub(crate) fn normalise<T: Scalar>(x: &mut [T])
-    ensures { x.new ≡ normalised T.Arithmetic.ops Real-as-RealScalar.real x.old }
+    ensures { x.new ≡ normalised T.Arithmetic.ops T.Real.RealScalar.real x.old }
 {
     let norm = norm(x);
     unscale(x, norm);

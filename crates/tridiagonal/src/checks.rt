@@ -30,7 +30,7 @@ fn lengths_agree(
 // The first entry whose size is not finite, by its row and column.
 fn entry_refused<T: Scalar>(n: usize, table: &[T]) -> Option<Fault>
     requires { 0 < n }
-    ensures { refusal_in result ≡ entry_refusal (kind T.Arithmetic.ops Real-as-Arithmetic.ops Real-as-RealScalar.real) n 0
+    ensures { refusal_in result ≡ entry_refusal (kind T.Arithmetic.ops T.Real.Arithmetic.ops T.Real.RealScalar.real) n 0
         table.now }
 {
     for k in 0..table.len() {
@@ -53,7 +53,7 @@ pub(crate) fn reduce_refused<T: Scalar>(
     signs: usize,
     scratch: usize,
 ) -> Option<Fault>
-    ensures { refusal_in result ≡ reduce_refusal (kind T.Arithmetic.ops Real-as-Arithmetic.ops Real-as-RealScalar.real) n
+    ensures { refusal_in result ≡ reduce_refusal (kind T.Arithmetic.ops T.Real.Arithmetic.ops T.Real.RealScalar.real) n
         table.now values offs signs scratch }
 {
     if side_refused(n) {

@@ -22,7 +22,7 @@ fn unit_entry<T: Scalar>(i: usize, j: usize) -> T
 
 // Column j of the identity.
 fn unit_column<T: Scalar>(column: &mut [T], j: usize)
-    ensures { column.new ≡ unit_from (kind T.Arithmetic.ops Real-as-Arithmetic.ops Real-as-RealScalar.real) j 0
+    ensures { column.new ≡ unit_from (kind T.Arithmetic.ops T.Real.Arithmetic.ops T.Real.RealScalar.real) j 0
         (length column.old) }
 {
     for i in 0..column.len() {
@@ -33,14 +33,14 @@ fn unit_column<T: Scalar>(column: &mut [T], j: usize)
 fn unit_column_at<T: Scalar>(q: &mut [T], n: usize, j: usize)
     requires { j * n + n ≤ length q.old }
     ensures { q.new ≡ put_mid (j * n) (j * n + n - j * n) q.old
-        (unit_from (kind T.Arithmetic.ops Real-as-Arithmetic.ops Real-as-RealScalar.real) j 0 n) }
+        (unit_from (kind T.Arithmetic.ops T.Real.Arithmetic.ops T.Real.RealScalar.real) j 0 n) }
 {
     unit_column(&mut q[j * n..j * n + n], j);
 }
 
 fn identity<T: Scalar>(n: usize, q: &mut [T])
     requires { length q.old ≡ n * n }
-    ensures { q.new ≡ identity_from (kind T.Arithmetic.ops Real-as-Arithmetic.ops Real-as-RealScalar.real) n 0 n }
+    ensures { q.new ≡ identity_from (kind T.Arithmetic.ops T.Real.Arithmetic.ops T.Real.RealScalar.real) n 0 n }
 {
     for j in 0..n {
         unit_column_at(q, n, j);
@@ -60,7 +60,7 @@ fn reflect_column<T: Scalar>(q: &mut [T], n: usize, j: usize, r: usize, axis: &[
     requires held { j * n + n ≤ length q.old }
     requires as_axis { length axis.now ≡ n - r }
     ensures { q.new ≡ put_mid (j * n + r) (j * n + n - (j * n + r)) q.old
-        (reflected (kind T.Arithmetic.ops Real-as-Arithmetic.ops Real-as-RealScalar.real) axis.now sign
+        (reflected (kind T.Arithmetic.ops T.Real.Arithmetic.ops T.Real.RealScalar.real) axis.now sign
         (take (n - r) (drop (j * n + r) q.old))) }
 {
     reflect_with_sign(axis, &mut q[j * n + r..j * n + n], sign);
@@ -71,7 +71,7 @@ fn reflect_columns<T: Scalar>(q: &mut [T], n: usize, r: usize, m: usize, axis: &
     requires rows { r ≤ n }
     requires held { length q.old ≡ m * n }
     requires as_axis { length axis.now ≡ n - r }
-    ensures { q.new ≡ reflected_columns (kind T.Arithmetic.ops Real-as-Arithmetic.ops Real-as-RealScalar.real) n r
+    ensures { q.new ≡ reflected_columns (kind T.Arithmetic.ops T.Real.Arithmetic.ops T.Real.RealScalar.real) n r
         axis.now sign m q.old }
 {
     for j in 0..m {
@@ -85,7 +85,7 @@ fn assemble_q<T: Scalar>(n: usize, table: &[T], signs: &[T], q: &mut [T])
     requires held { length table.now ≡ n * n }
     requires as_signs { length signs.now ≡ n - 1 }
     requires as_q { length q.old ≡ n * n }
-    ensures { q.new ≡ matrix_q (kind T.Arithmetic.ops Real-as-Arithmetic.ops Real-as-RealScalar.real) n
+    ensures { q.new ≡ matrix_q (kind T.Arithmetic.ops T.Real.Arithmetic.ops T.Real.RealScalar.real) n
         (lower n 0 n table.now) signs.now }
 {
     identity(n, q);

@@ -23,7 +23,7 @@ fn update<T: Scalar>(t: &mut [T], n: usize, k: usize, axis: &[T], p: &mut [T])
     requires as_axis { length axis.now ≡ n - k }
     requires as_p { length p.old ≡ n - k }
     ensures { t.new ≡ put n k (n - k)
-        (updated (kind T.Arithmetic.ops Real-as-Arithmetic.ops Real-as-RealScalar.real) axis.now
+        (updated (kind T.Arithmetic.ops T.Real.Arithmetic.ops T.Real.RealScalar.real) axis.now
         (lower n k (n - k) t.old)) t.old }
 {
     let two = T::from_real(T::Real::literal_two());
@@ -42,7 +42,7 @@ fn update_where<T: Scalar>(reflects: bool, t: &mut [T], n: usize, k: usize, axis
     requires as_axis { length axis.now ≡ n - k }
     requires as_p { length p.old ≡ n - k }
     ensures { t.new ≡ (if reflects then put n k (n - k)
-        (updated (kind T.Arithmetic.ops Real-as-Arithmetic.ops Real-as-RealScalar.real) axis.now
+        (updated (kind T.Arithmetic.ops T.Real.Arithmetic.ops T.Real.RealScalar.real) axis.now
         (lower n k (n - k) t.old)) t.old else t.old) }
 {
     if reflects {
@@ -58,11 +58,11 @@ fn step<T: Scalar>(t: &mut [T], n: usize, i: usize, axis: &mut [T], p: &mut [T])
     requires wide { n ≤ length t.old }
     requires as_axis { length axis.old ≡ n - (i + 1) }
     requires as_p { length p.old ≡ n - (i + 1) }
-    ensures norm { result ≡ axis_norm (kind T.Arithmetic.ops Real-as-Arithmetic.ops Real-as-RealScalar.real)
+    ensures norm { result ≡ axis_norm (kind T.Arithmetic.ops T.Real.Arithmetic.ops T.Real.RealScalar.real)
         (drop 1 (take (n - i) (drop i t.old))) }
     ensures table { t.new ≡ put n i (n - i)
-        (stepped_column (kind T.Arithmetic.ops Real-as-Arithmetic.ops Real-as-RealScalar.real) (take (n - i) (drop i t.old)) ∷
-        stepped_rest (kind T.Arithmetic.ops Real-as-Arithmetic.ops Real-as-RealScalar.real) (take (n - i) (drop i t.old))
+        (stepped_column (kind T.Arithmetic.ops T.Real.Arithmetic.ops T.Real.RealScalar.real) (take (n - i) (drop i t.old)) ∷
+        stepped_rest (kind T.Arithmetic.ops T.Real.Arithmetic.ops T.Real.RealScalar.real) (take (n - i) (drop i t.old))
         (lower n (i + 1) (n - i - 1) (drop n t.old))) t.old }
 {
     let report = reflection_axis_mut(&mut t[i + 1..n]);
@@ -78,10 +78,10 @@ fn reduce_columns<T: Scalar>(n: usize, table: &mut [T], signs: &mut [T], scratch
     requires as_signs { length signs.old ≡ n - 1 }
     requires as_scratch { length scratch.old ≡ n - 1 }
     ensures table { table.new ≡ put n 0 n
-        (reduced_columns (kind T.Arithmetic.ops Real-as-Arithmetic.ops Real-as-RealScalar.real) (n - 1)
+        (reduced_columns (kind T.Arithmetic.ops T.Real.Arithmetic.ops T.Real.RealScalar.real) (n - 1)
         (lower n 0 n table.old)) table.old }
     ensures signs { signs.new ≡
-        reduced_norms (kind T.Arithmetic.ops Real-as-Arithmetic.ops Real-as-RealScalar.real) (n - 1)
+        reduced_norms (kind T.Arithmetic.ops T.Real.Arithmetic.ops T.Real.RealScalar.real) (n - 1)
         (lower n 0 n table.old) }
 {
     for i in 0..n - 1 {

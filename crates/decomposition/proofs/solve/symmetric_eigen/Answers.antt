@@ -8,7 +8,7 @@ use Rattle.decomposition.proofs.solve.symmetric_eigen.Goals as goal
 
 pub returns-in-err-form : goal.returns-in-err-form
 returns-in-err-form g c =
-    let K = kind g.T.Arithmetic.ops g.Real.Arithmetic.ops g.Real.RealScalar.real in
+    let K = kind g.T.Arithmetic.ops g.T.Real.Arithmetic.ops g.T.Real.RealScalar.real in
     let is = unformed K c.args.n (vec_items c.args.table) c.args.tolerance c.args.limit true c.in-err-form.field-0.0 c.in-err-form.ensures.form in
     let p = err_from_is_err_and c.from-residual.result c.from-residual.ensures.1 in rw (p.1, p.2)
     (record {
@@ -19,7 +19,7 @@ returns-in-err-form g c =
 
 pub returns : goal.returns
 returns g c =
-    let K = kind g.T.Arithmetic.ops g.Real.Arithmetic.ops g.Real.RealScalar.real in
+    let K = kind g.T.Arithmetic.ops g.T.Real.Arithmetic.ops g.T.Real.RealScalar.real in
     let told = c.in-ok-form.ensures.form in
     let is =
     c.vectors-of.ensures.solution

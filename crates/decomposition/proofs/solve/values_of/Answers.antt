@@ -10,7 +10,7 @@ use Rattle.decomposition.proofs.solve.values_of.Goals as goal
 
 pub returns : goal.returns
 returns g c =
-    let K = kind g.T.Arithmetic.ops g.Real.Arithmetic.ops g.Real.RealScalar.real in
+    let K = kind g.T.Arithmetic.ops g.T.Real.Arithmetic.ops g.T.Real.RealScalar.real in
     let f = form_of c.args.form in
     let side = c.args.form.reduction.side in
     let wide : c.new-keeper.result.width ≡ side =

@@ -14,7 +14,7 @@ use Rattle.decomposition.proofs.solve.vectors_of.Goals as goal
 
 pub returns-in-err-passes : goal.returns-in-err-passes
 returns-in-err-passes g c =
-    let K = kind g.T.Arithmetic.ops g.Real.Arithmetic.ops g.Real.RealScalar.real in
+    let K = kind g.T.Arithmetic.ops g.T.Real.Arithmetic.ops g.T.Real.RealScalar.real in
     let f = form_of c.args.form in
     let q = c.in-ok-q.q in
     let kept = all_rows g.T.Arithmetic.ops.zero c.new-keeper.result.width c.new-keeper.result.count c.new-keeper.result.cells.now in
@@ -41,7 +41,7 @@ returns-in-err-passes g c =
 
 pub returns : goal.returns
 returns g c =
-    let K = kind g.T.Arithmetic.ops g.Real.Arithmetic.ops g.Real.RealScalar.real in
+    let K = kind g.T.Arithmetic.ops g.T.Real.Arithmetic.ops g.T.Real.RealScalar.real in
     let f = form_of c.args.form in
     let q = c.in-ok-q.q in
     let kept = all_rows g.T.Arithmetic.ops.zero c.new-keeper.result.width c.new-keeper.result.count c.new-keeper.result.cells.now in

@@ -9,13 +9,13 @@ pub returns-then-n-eq0 : goal.returns-then-n-eq0
 returns-then-n-eq0 g c =
     record {
       form =
-          refused_side (kind g.T.Arithmetic.ops g.Real.Arithmetic.ops g.Real.RealScalar.real) c.args.n
+          refused_side (kind g.T.Arithmetic.ops g.T.Real.Arithmetic.ops g.T.Real.RealScalar.real) c.args.n
           (vec_items c.args.table) c.then-n-eq0.either;
     }
 
 pub returns : goal.returns
 returns g c =
-    let K = kind g.T.Arithmetic.ops g.Real.Arithmetic.ops g.Real.RealScalar.real in
+    let K = kind g.T.Arithmetic.ops g.T.Real.Arithmetic.ops g.T.Real.RealScalar.real in
     let left = c.reduce.new in
     let kept = c.reduce.auto in
     let told = c.in-ok-reduction.ensures in

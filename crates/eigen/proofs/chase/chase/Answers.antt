@@ -11,7 +11,7 @@ pub chase-preserved : goal.chase-preserved
 chase-preserved g c =
     let k = g.K.Keeper.kept c.chase.keeper in
     let wide : c.args.end < k.width = omega (arith, c.chase.invariant.1) in (
-      Turned.chase-preserved g.T.Arithmetic.ops g.Real.Arithmetic.ops g.Real.RealScalar.real c.args.start c.args.end
+      Turned.chase-preserved g.T.Arithmetic.ops g.T.Real.Arithmetic.ops g.T.Real.RealScalar.real c.args.start c.args.end
           c.chase.i c.in-Some.found c.chase.bulge _ c.chase.values _ c.chase.offs _ k _ (omega arith) wide
           c.in-Some.ensures.rotation c.step-bulge.ensures.bulge c.step-bulge.ensures.values
           c.step-bulge.ensures.offs c.turn-back.ensures.rows
@@ -22,22 +22,22 @@ chase-preserved g c =
 
 pub returns-after-chase : goal.returns-after-chase
 returns-after-chase g c =
-    let done = chase_done g.T.Arithmetic.ops g.Real.Arithmetic.ops g.Real.RealScalar.real c.args.start c.args.end
+    let done = chase_done g.T.Arithmetic.ops g.T.Real.Arithmetic.ops g.T.Real.RealScalar.real c.args.start c.args.end
     c.chase.values c.chase.offs (g.K.Keeper.kept c.chase.keeper) _
-    (chase_over g.Real.Arithmetic.ops g.Real.RealScalar.real c.args.start c.args.end c.chase.i c.chase.bulge
+    (chase_over g.T.Real.Arithmetic.ops g.T.Real.RealScalar.real c.args.start c.args.end c.chase.i c.chase.bulge
     c.chase.values c.chase.offs (omega arith)) in
-    let whole = chase_whole g.T.Arithmetic.ops g.Real.Arithmetic.ops g.Real.RealScalar.real c.args.start c.args.end
+    let whole = chase_whole g.T.Arithmetic.ops g.T.Real.Arithmetic.ops g.T.Real.RealScalar.real c.args.start c.args.end
     c.first-bulge-bulge.result c.args.values.now c.args.offs.now (g.K.Keeper.kept c.args.keeper.now) _
     c.first-bulge-bulge.ensures.bulge (sym done ∙ c.chase.invariant.0) in
     record { values = ap (λ l. l.values) whole; offs = ap (λ l. l.offs) whole; rows = ap (λ l. l.kept) whole }
 
 pub returns-in-None : goal.returns-in-None
 returns-in-None g c =
-    let done = chase_done g.T.Arithmetic.ops g.Real.Arithmetic.ops g.Real.RealScalar.real c.args.start c.args.end
+    let done = chase_done g.T.Arithmetic.ops g.T.Real.Arithmetic.ops g.T.Real.RealScalar.real c.args.start c.args.end
     c.chase.values c.chase.offs (g.K.Keeper.kept c.chase.keeper) _
-    (chase_left g.Real.Arithmetic.ops g.Real.RealScalar.real c.args.start c.args.end _ c.chase.i c.chase.bulge
+    (chase_left g.T.Real.Arithmetic.ops g.T.Real.RealScalar.real c.args.start c.args.end _ c.chase.i c.chase.bulge
     c.chase.values c.chase.offs c.in-None.ensures.rotation) in
-    let whole = chase_whole g.T.Arithmetic.ops g.Real.Arithmetic.ops g.Real.RealScalar.real c.args.start c.args.end
+    let whole = chase_whole g.T.Arithmetic.ops g.T.Real.Arithmetic.ops g.T.Real.RealScalar.real c.args.start c.args.end
     c.first-bulge-bulge.result c.args.values.now c.args.offs.now (g.K.Keeper.kept c.args.keeper.now) _
     c.first-bulge-bulge.ensures.bulge (sym done ∙ c.chase.invariant.0) in
     record { values = ap (λ l. l.values) whole; offs = ap (λ l. l.offs) whole; rows = ap (λ l. l.kept) whole }

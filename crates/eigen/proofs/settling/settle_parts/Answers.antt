@@ -12,15 +12,15 @@ returns-in-Err g c =
     (g.K.Keeper.kept c.args.keeper.now) in
     let f = finish_of (denied (refusal c.in-Err.fault)) c.args.values.now c.args.offs.now
     (g.K.Keeper.kept c.args.keeper.now) in
-    let r : IsRun g.T.Arithmetic.ops g.Real.Arithmetic.ops
-    g.Real.RealScalar.real s c.args.limit f =
-    refused_run g.T.Arithmetic.ops g.Real.Arithmetic.ops
-    g.Real.RealScalar.real s c.args.limit (refusal c.in-Err.fault) c.in-Err.ensures.answer in
+    let r : IsRun g.T.Arithmetic.ops g.T.Real.Arithmetic.ops
+    g.T.Real.RealScalar.real s c.args.limit f =
+    refused_run g.T.Arithmetic.ops g.T.Real.Arithmetic.ops
+    g.T.Real.RealScalar.real s c.args.limit (refusal c.in-Err.fault) c.in-Err.ensures.answer in
     record {
       begun = ap is_given c.in-Err.ensures.answer;
       run = r;
-      keepers = λ t e like other. any_keeper g.T.Arithmetic.ops g.Real.Arithmetic.ops
-          g.Real.RealScalar.real s t c.args.limit f e r like other;
-      limits = λ passes m t e is like other. limits g.T.Arithmetic.ops g.Real.Arithmetic.ops
-          g.Real.RealScalar.real s t c.args.limit m passes f e r is like other;
+      keepers = λ t e like other. any_keeper g.T.Arithmetic.ops g.T.Real.Arithmetic.ops
+          g.T.Real.RealScalar.real s t c.args.limit f e r like other;
+      limits = λ passes m t e is like other. limits g.T.Arithmetic.ops g.T.Real.Arithmetic.ops
+          g.T.Real.RealScalar.real s t c.args.limit m passes f e r is like other;
     }

@@ -5,12 +5,12 @@ use Rattle.eigen.proofs.symmetric_eigen.run.Goals as goal
 
 pub returns-then-block : goal.returns-then-block
 returns-then-block g c =
-    let end = run_ends g.T.Arithmetic.ops g.Real.Arithmetic.ops g.Real.RealScalar.real c.args.tolerance c.args.limit
+    let end = run_ends g.T.Arithmetic.ops g.T.Real.Arithmetic.ops g.T.Real.RealScalar.real c.args.tolerance c.args.limit
     c.args.side c.args.largest c.args.values.now c.args.offs.now c.delimit-subproblem-block.new.offs
     c.delimit-subproblem-block.result (g.K.Keeper.kept c.args.keeper.now)
     (ended_of (settled c.passes.count) c.passes.values c.passes.offs (g.K.Keeper.kept c.passes.keeper))
     c.delimit-subproblem-block.ensures.offs c.delimit-subproblem-block.ensures.block _
-    (ends_single g.T.Arithmetic.ops g.Real.Arithmetic.ops g.Real.RealScalar.real c.args.tolerance c.args.limit
+    (ends_single g.T.Arithmetic.ops g.T.Real.Arithmetic.ops g.T.Real.RealScalar.real c.args.tolerance c.args.limit
     c.passes.count c.passes.values c.passes.offs c.passes.block (g.K.Keeper.kept c.passes.keeper)
     c.passes-test.true c.if-block.true)
     c.passes.invariant.0 in
@@ -18,12 +18,12 @@ returns-then-block g c =
 
 pub returns-in-None : goal.returns-in-None
 returns-in-None g c =
-    let end = run_ends g.T.Arithmetic.ops g.Real.Arithmetic.ops g.Real.RealScalar.real c.args.tolerance c.args.limit
+    let end = run_ends g.T.Arithmetic.ops g.T.Real.Arithmetic.ops g.T.Real.RealScalar.real c.args.tolerance c.args.limit
     c.args.side c.args.largest c.args.values.now c.args.offs.now c.delimit-subproblem-block.new.offs
     c.delimit-subproblem-block.result (g.K.Keeper.kept c.args.keeper.now)
     (ended_of (no_pair c.passes.count) c.pass.new.values c.pass.new.offs (g.K.Keeper.kept c.pass.new.keeper))
     c.delimit-subproblem-block.ensures.offs c.delimit-subproblem-block.ensures.block _
-    (ends_broken g.T.Arithmetic.ops g.Real.Arithmetic.ops g.Real.RealScalar.real c.args.tolerance c.args.limit
+    (ends_broken g.T.Arithmetic.ops g.T.Real.Arithmetic.ops g.T.Real.RealScalar.real c.args.tolerance c.args.limit
     c.passes.count c.passes.values c.pass.new.values c.passes.offs c.pass.new.offs c.passes.block
     (g.K.Keeper.kept c.passes.keeper) (g.K.Keeper.kept c.pass.new.keeper) c.passes-test.true c.if-block.false
     c.in-None.ensures.end c.pass.ensures.values c.pass.ensures.offs c.pass.ensures.rows)
@@ -32,11 +32,11 @@ returns-in-None g c =
 
 pub passes-preserved : goal.passes-preserved
 passes-preserved g c =
-    let falls : c.in-Some.end ≤ c.passes.block.end = pass_falls g.Real.Arithmetic.ops g.Real.RealScalar.real
+    let falls : c.in-Some.end ≤ c.passes.block.end = pass_falls g.T.Real.Arithmetic.ops g.T.Real.RealScalar.real
     c.args.tolerance
     c.passes.block.start c.passes.block.end c.in-Some.end c.passes.values c.passes.offs
     c.in-Some.ensures.end in (
-      ends_passed g.T.Arithmetic.ops g.Real.Arithmetic.ops g.Real.RealScalar.real c.args.tolerance c.args.limit
+      ends_passed g.T.Arithmetic.ops g.T.Real.Arithmetic.ops g.T.Real.RealScalar.real c.args.tolerance c.args.limit
           c.passes.count c.in-Some.end c.passes.values c.pass.new.values c.passes.offs c.pass.new.offs
           c.delimit-subproblem-block-in-Some.new.offs c.passes.block c.delimit-subproblem-block-in-Some.result
           (g.K.Keeper.kept c.passes.keeper) (g.K.Keeper.kept c.pass.new.keeper) c.passes-test.true c.if-block.false
@@ -57,12 +57,12 @@ passes-preserved g c =
 
 pub returns : goal.returns
 returns g c =
-    let end = run_ends g.T.Arithmetic.ops g.Real.Arithmetic.ops g.Real.RealScalar.real c.args.tolerance c.args.limit
+    let end = run_ends g.T.Arithmetic.ops g.T.Real.Arithmetic.ops g.T.Real.RealScalar.real c.args.tolerance c.args.limit
     c.args.side c.args.largest c.args.values.now c.args.offs.now c.delimit-subproblem-block.new.offs
     c.delimit-subproblem-block.result (g.K.Keeper.kept c.args.keeper.now)
     (ended_of (not_settled c.passes.count) c.passes.values c.passes.offs (g.K.Keeper.kept c.passes.keeper))
     c.delimit-subproblem-block.ensures.offs c.delimit-subproblem-block.ensures.block _
-    (ends_over g.T.Arithmetic.ops g.Real.Arithmetic.ops g.Real.RealScalar.real c.args.tolerance c.args.limit
+    (ends_over g.T.Arithmetic.ops g.T.Real.Arithmetic.ops g.T.Real.RealScalar.real c.args.tolerance c.args.limit
     c.passes.count c.passes.values c.passes.offs c.passes.block (g.K.Keeper.kept c.passes.keeper)
     c.passes-test.false)
     c.passes.invariant.0 in

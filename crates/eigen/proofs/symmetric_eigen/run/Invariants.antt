@@ -7,9 +7,9 @@ use Rattle.eigen.proofs.symmetric_eigen.run.Given as goal
 -- what is left of the run gives the whole
 abbrev pub invariant-passes : goal.invariant-passes
 invariant-passes g l =
-    (ends_from g.T.Arithmetic.ops g.Real.Arithmetic.ops g.Real.RealScalar.real l.tolerance l.limit
+    (ends_from g.T.Arithmetic.ops g.T.Real.Arithmetic.ops g.T.Real.RealScalar.real l.tolerance l.limit
     l.count l.values l.offs l.block (g.K.Keeper.kept l.keeper)
-    ≡ ended_by g.T.Arithmetic.ops (iterate (pass_of g.Real.Arithmetic.ops g.Real.RealScalar.real l.tolerance) l.limit 0
+    ≡ ended_by g.T.Arithmetic.ops (iterate (pass_of g.T.Real.Arithmetic.ops g.T.Real.RealScalar.real l.tolerance) l.limit 0
     (standing_of l.initial.values l.initial.offs l.initial.block)) (g.K.Keeper.kept l.initial.keeper))
     × ((g.K.Keeper.kept l.keeper).width ≡ (g.K.Keeper.kept l.initial.keeper).width)
     × (l.block.start ≤ l.block.end)

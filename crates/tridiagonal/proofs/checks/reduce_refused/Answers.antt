@@ -5,18 +5,18 @@ use Rattle.tridiagonal.proofs.checks.reduce_refused.Goals as goal
 
 pub returns-then-side-refused : goal.returns-then-side-refused
 returns-then-side-refused g c =
-    sym (refused_side (kind g.T.Arithmetic.ops g.Real.Arithmetic.ops g.Real.RealScalar.real) c.args.n c.args.table.now
+    sym (refused_side (kind g.T.Arithmetic.ops g.T.Real.Arithmetic.ops g.T.Real.RealScalar.real) c.args.n c.args.table.now
     c.args.values c.args.offs c.args.signs c.args.scratch (sym c.side-refused.ensures ∙ c.if-side-refused.true))
 
 pub returns-then-not-lengths-agree : goal.returns-then-not-lengths-agree
 returns-then-not-lengths-agree g c =
-    sym (refused_length (kind g.T.Arithmetic.ops g.Real.Arithmetic.ops g.Real.RealScalar.real) c.args.n c.args.table.now
+    sym (refused_length (kind g.T.Arithmetic.ops g.T.Real.Arithmetic.ops g.T.Real.RealScalar.real) c.args.n c.args.table.now
     c.args.values c.args.offs c.args.signs c.args.scratch (sym c.side-refused.ensures ∙ c.if-side-refused.false)
     (sym c.lengths-agree.ensures ∙ c.if-not-lengths-agree.true))
 
 pub returns : goal.returns
 returns g c =
     c.entry-refused.ensures
-    ∙ sym (refused_entry (kind g.T.Arithmetic.ops g.Real.Arithmetic.ops g.Real.RealScalar.real) c.args.n
+    ∙ sym (refused_entry (kind g.T.Arithmetic.ops g.T.Real.Arithmetic.ops g.T.Real.RealScalar.real) c.args.n
     c.args.table.now c.args.values c.args.offs c.args.signs c.args.scratch
     (sym c.side-refused.ensures ∙ c.if-side-refused.false) (sym c.lengths-agree.ensures ∙ c.if-not-lengths-agree.false))

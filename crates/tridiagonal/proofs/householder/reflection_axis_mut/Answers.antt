@@ -7,7 +7,7 @@ use Rattle.tridiagonal.proofs.householder.reflection_axis_mut.Goals as goal
 
 pub returns-then-is-zero : goal.returns-then-is-zero
 returns-then-is-zero g c =
-    let K = kind g.T.Arithmetic.ops g.Real.Arithmetic.ops g.Real.RealScalar.real in
+    let K = kind g.T.Arithmetic.ops g.T.Real.Arithmetic.ops g.T.Real.RealScalar.real in
     let xs = c.args.column.now in
     let first = get_or_read xs 0 c.index-column-0.result c.requires c.index-column-0.is K.ops.zero in
     let norm = c.sqrt-norm.ensures.value ∙ ap K.real.root c.norm-squared-squared.ensures in
@@ -20,7 +20,7 @@ returns-then-is-zero g c =
 
 pub returns-else-is-zero : goal.returns-else-is-zero
 returns-else-is-zero g c =
-    let K = kind g.T.Arithmetic.ops g.Real.Arithmetic.ops g.Real.RealScalar.real in
+    let K = kind g.T.Arithmetic.ops g.T.Real.Arithmetic.ops g.T.Real.RealScalar.real in
     let xs = c.args.column.now in
     let first = get_or_read xs 0 c.index-column-0.result c.requires c.index-column-0.is K.ops.zero in
     let norm = c.sqrt-norm.ensures.value ∙ ap K.real.root c.norm-squared-squared.ensures in

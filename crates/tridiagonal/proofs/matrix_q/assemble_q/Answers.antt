@@ -15,7 +15,7 @@ pub loop-i-init : goal.loop-i-init
 loop-i-init g c =
     let full : length c.args.signs.now ≤ c.args.n - 1 = omega arith in (
       omega arith,
-      c.identity.ensures ∙ sym (assembled_none (kind g.T.Arithmetic.ops g.Real.Arithmetic.ops g.Real.RealScalar.real) c.args.n
+      c.identity.ensures ∙ sym (assembled_none (kind g.T.Arithmetic.ops g.T.Real.Arithmetic.ops g.T.Real.RealScalar.real) c.args.n
           (c.args.n - 1) _ c.args.signs.now full),
     )
 
@@ -65,7 +65,7 @@ reflect-columns-requires g c =
 
 pub loop-i-preserved : goal.loop-i-preserved
 loop-i-preserved g c =
-    let K = kind g.T.Arithmetic.ops g.Real.Arithmetic.ops g.Real.RealScalar.real in
+    let K = kind g.T.Arithmetic.ops g.T.Real.Arithmetic.ops g.T.Real.RealScalar.real in
     let n = c.args.n in let i = c.loop-i.i in let p = i - 1 in let t = c.args.table.now in let signs = c.args.signs.now in
     let below = c.loop-i.invariant.0 in
     let some : p + 1 < n = omega arith in
@@ -81,5 +81,5 @@ loop-i-preserved g c =
 pub returns : goal.returns
 returns g c =
     let end : c.loop-i.i ≡ 0 = omega arith in
-    c.loop-i.invariant.1 ∙ assembled_all (kind g.T.Arithmetic.ops g.Real.Arithmetic.ops g.Real.RealScalar.real) c.args.n
+    c.loop-i.invariant.1 ∙ assembled_all (kind g.T.Arithmetic.ops g.T.Real.Arithmetic.ops g.T.Real.RealScalar.real) c.args.n
     c.loop-i.i c.args.table.now c.args.signs.now end

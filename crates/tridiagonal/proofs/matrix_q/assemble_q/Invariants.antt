@@ -8,7 +8,7 @@ use Rattle.tridiagonal.proofs.matrix_q.assemble_q.Given as goal
 abbrev pub invariant-loop-i : goal.invariant-loop-i
 invariant-loop-i g l =
     (l.i ≤ l.n - 1) ×
-    (l.q ≡ assembled_from (kind g.T.Arithmetic.ops g.Real.Arithmetic.ops g.Real.RealScalar.real) l.n l.i
+    (l.q ≡ assembled_from (kind g.T.Arithmetic.ops g.T.Real.Arithmetic.ops g.T.Real.RealScalar.real) l.n l.i
     (lower l.n l.i (l.n - l.i) (drop (l.i * l.n) l.table)) (drop l.i l.signs))
 
 abbrev pub decreases-loop-i : goal.decreases-loop-i

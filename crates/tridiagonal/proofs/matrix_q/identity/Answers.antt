@@ -18,12 +18,12 @@ loop-j-preserved g c =
     let same = c.loop-j.auto.q in
     let next = column_next j n in
     let ends : (j + 1) * n ≤ length c.loop-j.q = omega arith in
-    identity_more (kind g.T.Arithmetic.ops g.Real.Arithmetic.ops g.Real.RealScalar.real) n j (j * n) ((j + 1) * n) c.loop-j.q
+    identity_more (kind g.T.Arithmetic.ops g.T.Real.Arithmetic.ops g.T.Real.RealScalar.real) n j (j * n) ((j + 1) * n) c.loop-j.q
     c.unit-column-at.new.q c.loop-j-test.true next ends c.unit-column-at.ensures ∙ c.loop-j.invariant
 
 pub returns : goal.returns
 returns g c =
-    let K = kind g.T.Arithmetic.ops g.Real.Arithmetic.ops g.Real.RealScalar.real in
+    let K = kind g.T.Arithmetic.ops g.T.Real.Arithmetic.ops g.T.Real.RealScalar.real in
     let n = c.args.n in let j = c.loop-j.j in
     let none : n - j ≡ 0 = omega arith in
     let end : n ≤ j = omega arith in

@@ -18,13 +18,13 @@ loop-j-preserved g c =
     let same = c.loop-j.auto.q in
     let next = column_next j n in
     let ends : (j + 1) * n ≤ length c.loop-j.q = omega arith in
-    reflected_more (kind g.T.Arithmetic.ops g.Real.Arithmetic.ops g.Real.RealScalar.real) n c.args.r c.args.axis.now
+    reflected_more (kind g.T.Arithmetic.ops g.T.Real.Arithmetic.ops g.T.Real.RealScalar.real) n c.args.r c.args.axis.now
     c.args.sign c.requires.rows c.requires.as-axis j c.args.m (j * n) ((j + 1) * n) c.loop-j.q c.reflect-column.new.q
     c.loop-j-test.true next ends c.reflect-column.ensures ∙ c.loop-j.invariant
 
 pub returns : goal.returns
 returns g c =
-    let K = kind g.T.Arithmetic.ops g.Real.Arithmetic.ops g.Real.RealScalar.real in
+    let K = kind g.T.Arithmetic.ops g.T.Real.Arithmetic.ops g.T.Real.RealScalar.real in
     let n = c.args.n in let j = c.loop-j.j in let q = c.loop-j.q in
     let none : c.args.m - j ≡ 0 = omega arith in
     sym (take-append-drop (j * n) q)

@@ -8,13 +8,13 @@ use Rattle.tridiagonal.proofs.matrix_q.unit_column.Goals as goal
 pub loop-i-preserved : goal.loop-i-preserved
 loop-i-preserved g c =
     let within : c.loop-i.i < length c.loop-i.column = omega arith in
-    unit_more (kind g.T.Arithmetic.ops g.Real.Arithmetic.ops g.Real.RealScalar.real) c.args.j c.loop-i.i
+    unit_more (kind g.T.Arithmetic.ops g.T.Real.Arithmetic.ops g.T.Real.RealScalar.real) c.args.j c.loop-i.i
     (length c.args.column.now) c.loop-i.column c.unit-entry.result c.loop-i-test.true within c.unit-entry.ensures
     ∙ c.loop-i.invariant
 
 pub returns : goal.returns
 returns g c =
-    let K = kind g.T.Arithmetic.ops g.Real.Arithmetic.ops g.Real.RealScalar.real in
+    let K = kind g.T.Arithmetic.ops g.T.Real.Arithmetic.ops g.T.Real.RealScalar.real in
     let none : length c.args.column.now - c.loop-i.i ≡ 0 = omega arith in
     let full : length c.loop-i.column ≤ c.loop-i.i = omega arith in
     sym (written c.loop-i.column (unit_from K c.args.j c.loop-i.i (length c.args.column.now - c.loop-i.i)) c.loop-i.i full

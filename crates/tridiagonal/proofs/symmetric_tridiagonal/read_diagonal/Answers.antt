@@ -24,7 +24,7 @@ bounds-column-0 g c =
 
 pub loop-i-preserved : goal.loop-i-preserved
 loop-i-preserved g c =
-    let K = kind g.T.Arithmetic.ops g.Real.Arithmetic.ops g.Real.RealScalar.real in
+    let K = kind g.T.Arithmetic.ops g.T.Real.Arithmetic.ops g.T.Real.RealScalar.real in
     let n = c.args.n in let i = c.loop-i.i in let t = c.args.table.now in
     let all : i + (n - i) ≡ n = omega arith in
     let some : 0 < n - i = omega arith in
@@ -43,7 +43,7 @@ loop-i-preserved g c =
 
 pub returns : goal.returns
 returns g c =
-    let K = kind g.T.Arithmetic.ops g.Real.Arithmetic.ops g.Real.RealScalar.real in
+    let K = kind g.T.Arithmetic.ops g.T.Real.Arithmetic.ops g.T.Real.RealScalar.real in
     let n = c.args.n in let i = c.loop-i.i in let t = c.args.table.now in
     let none : n - i ≡ 0 = omega arith in
     let full : length c.loop-i.values ≤ i = omega arith in

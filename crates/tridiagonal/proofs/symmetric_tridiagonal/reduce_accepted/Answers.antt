@@ -12,7 +12,7 @@ largest-size-largest-requires g c =
 pub returns : goal.returns
 unfolding divided
 returns g c =
-    let K = kind g.T.Arithmetic.ops g.Real.Arithmetic.ops g.Real.RealScalar.real in
+    let K = kind g.T.Arithmetic.ops g.T.Real.Arithmetic.ops g.T.Real.RealScalar.real in
     let n = c.args.n in let t = c.args.table.now in
     let d = c.divide.new.table in let T = c.reduce-columns.new.table in
     let l = c.largest-size-largest.result in

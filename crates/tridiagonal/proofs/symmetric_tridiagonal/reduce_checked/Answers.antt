@@ -10,7 +10,7 @@ use Rattle.tridiagonal.proofs.symmetric_tridiagonal.reduce_checked.Goals as goal
 
 pub reduce-accepted-requires : goal.reduce-accepted-requires
 reduce-accepted-requires g c =
-    let ok = accepted (kind g.T.Arithmetic.ops g.Real.Arithmetic.ops g.Real.RealScalar.real) c.args.n c.args.table.now
+    let ok = accepted (kind g.T.Arithmetic.ops g.T.Real.Arithmetic.ops g.T.Real.RealScalar.real) c.args.n c.args.table.now
     (length c.args.values.now) (length c.args.offs.now) (length c.args.signs.now) (length c.args.scratch.now)
     (sym c.in-None.ensures) in
     record {
@@ -25,7 +25,7 @@ reduce-accepted-requires g c =
 
 pub returns-in-Some : goal.returns-in-Some
 returns-in-Some g c =
-    let K = kind g.T.Arithmetic.ops g.Real.Arithmetic.ops g.Real.RealScalar.real in
+    let K = kind g.T.Arithmetic.ops g.T.Real.Arithmetic.ops g.T.Real.RealScalar.real in
     let given = buffers c.args.table.now c.args.values.now c.args.offs.now c.args.signs.now c.args.scratch.now in
     let run = refused_run K c.args.n given (Refused (refusal c.in-Some.fault)) (refusal c.in-Some.fault)
     (sym c.in-Some.ensures) refl in
@@ -36,7 +36,7 @@ returns-in-Some g c =
 
 pub returns-in-None : goal.returns-in-None
 returns-in-None g c =
-    let K = kind g.T.Arithmetic.ops g.Real.Arithmetic.ops g.Real.RealScalar.real in
+    let K = kind g.T.Arithmetic.ops g.T.Real.Arithmetic.ops g.T.Real.RealScalar.real in
     let given = buffers c.args.table.now c.args.values.now c.args.offs.now c.args.signs.now c.args.scratch.now in
     let did = c.reduce-accepted in
     let left = buffers did.new.table did.new.values did.new.offs did.new.signs did.new.scratch in

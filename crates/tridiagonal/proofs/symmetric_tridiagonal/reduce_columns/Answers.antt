@@ -43,7 +43,7 @@ step-norm-requires g c =
 
 pub loop-i-preserved : goal.loop-i-preserved
 loop-i-preserved g c =
-    let K = kind g.T.Arithmetic.ops g.Real.Arithmetic.ops g.Real.RealScalar.real in
+    let K = kind g.T.Arithmetic.ops g.T.Real.Arithmetic.ops g.T.Real.RealScalar.real in
     let n = c.args.n in let i = c.loop-i.i in let T = c.loop-i.table in
     let t_same = c.loop-i.auto.table in let s-same = c.loop-i.auto.signs in
     let whole = columns_split i n (omega arith) in
@@ -61,7 +61,7 @@ loop-i-preserved g c =
 
 pub returns : goal.returns
 returns g c =
-    let K = kind g.T.Arithmetic.ops g.Real.Arithmetic.ops g.Real.RealScalar.real in
+    let K = kind g.T.Arithmetic.ops g.T.Real.Arithmetic.ops g.T.Real.RealScalar.real in
     let n = c.args.n in let i = c.loop-i.i in let T = c.loop-i.table in
     let none : n - 1 - i ≡ 0 = omega arith in
     let all : i + (n - i) ≡ n = omega arith in

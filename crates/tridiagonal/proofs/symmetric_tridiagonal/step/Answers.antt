@@ -5,7 +5,7 @@ use Rattle.tridiagonal.proofs.symmetric_tridiagonal.step.Goals as goal
 
 pub returns : goal.returns
 returns g c =
-    let K = kind g.T.Arithmetic.ops g.Real.Arithmetic.ops g.Real.RealScalar.real in
+    let K = kind g.T.Arithmetic.ops g.T.Real.Arithmetic.ops g.T.Real.RealScalar.real in
     let n = c.args.n in let i = c.args.i in let t = c.args.t.now in
     let report = c.reflection-axis-mut-report in
     let there : n - (i + 1) ≤ length (drop (i + 1) t) = let d = length-drop (i + 1) t in omega arith in

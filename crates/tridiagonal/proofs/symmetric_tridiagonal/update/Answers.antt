@@ -6,7 +6,7 @@ use Rattle.tridiagonal.proofs.symmetric_tridiagonal.update.Goals as goal
 
 pub returns : goal.returns
 returns g c =
-    let K = kind g.T.Arithmetic.ops g.Real.Arithmetic.ops g.Real.RealScalar.real in
+    let K = kind g.T.Arithmetic.ops g.T.Real.Arithmetic.ops g.T.Real.RealScalar.real in
     let all : c.args.k + (c.args.n - c.args.k) ≡ c.args.n = omega arith in
     let held : (c.args.n - c.args.k) * c.args.n ≤ length c.args.t.now = omega arith in
     let is-two : c.from-real-two.result ≡ two K =

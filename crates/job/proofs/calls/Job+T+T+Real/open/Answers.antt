@@ -22,5 +22,5 @@ returns g c =
     record {
       outcome = ap made b ∙ opens g.T.Arithmetic.ops c.args.side s;
       gathered =
-          rw b (blank_gathered g.T.Arithmetic.ops g.Real.RealScalar.real c.size.ensures.laws c.args.side);
+          rw b (blank_gathered g.T.Arithmetic.ops g.T.Real.RealScalar.real c.size.ensures.laws c.args.side);
     }
