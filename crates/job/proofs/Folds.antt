@@ -32,9 +32,9 @@ module _ {C R : Type 0} (ops : Ops C R) (real : RealOps R) (laws : LargerLaws re
         ap (λ n. fold (gather ops real) n xs)
         (sym (laws.comm (ops.size ops.zero) (ops.size x) sizes.zero_size s.0 ∙ sizes.zero_neutral (ops.size x) s.0))
 
-    pub largest_size : (xs : List C) → Sized ops real xs → T (real.is_size (largest_size ops real xs))
-    largest_size [] s = sizes.zero_size
-    largest_size (x ∷ xs) s = folded_size (ops.size x) xs s.0 s.1
+    pub largest_is_size : (xs : List C) → Sized ops real xs → T (real.is_size (largest_size ops real xs))
+    largest_is_size [] s = sizes.zero_size
+    largest_is_size (x ∷ xs) s = folded_size (ops.size x) xs s.0 s.1
 
     -- a number in the place of a zero
     pub folded_set : (a : R) (xs : List C) (i : ℕ) (x : C) → T (real.is_size a) → Sized ops real xs → HasSize ops real x →

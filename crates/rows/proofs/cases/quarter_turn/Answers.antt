@@ -16,8 +16,8 @@ pub returns : goal.returns
 returns c =
     let t = turn_of 0 (of_bits binary64 0) (of_bits binary64 4607182418800017408) Forward in
     let after = c.turn.ensures.rows ∙ ap (kept_turned (float_ops binary64) t) c.new-keeper.ensures.kept ∙ quarter in
-    let a : given c.in-ok-a.a ≡ given float_zero =
-    c.in-ok-a.ensures.answer ∙ ap (λ (k : Kept Float). cell_at k.rows 0 0) after in
-    let b : given c.in-ok-b.b ≡ given (fin true 1 (pos 0)) =
-    c.in-ok-b.ensures.answer ∙ ap (λ (k : Kept Float). cell_at k.rows 0 1) after in
+    let a : given c.in_ok-a.a ≡ given float_zero =
+    c.in_ok-a.ensures.answer ∙ ap (λ (k : Kept Float). cell_at k.rows 0 0) after in
+    let b : given c.in_ok-b.b ≡ given (fin true 1 (pos 0)) =
+    c.in_ok-b.ensures.answer ∙ ap (λ (k : Kept Float). cell_at k.rows 0 1) after in
     record { row = pair _ _ a b }

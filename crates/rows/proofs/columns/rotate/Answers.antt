@@ -7,8 +7,8 @@ use Rattle.rows.proofs.Held.{fit_length}
 use Rattle.rows.proofs.Rotations.{turned_more, turned_throughout}
 use Rattle.rows.proofs.columns.rotate.Goals as goal
 
-pub turn-entries-requires : goal.turn-entries-requires
-turn-entries-requires g c =
+pub turn_entries-requires : goal.turn_entries-requires
+turn_entries-requires g c =
     let len = fit_length c.args.width c.args.count (length c.args.cells.now) c.requires.fit in
     let here : c.args.column < c.args.width = omega arith in
     let next : suc c.args.column < c.args.width = omega arith in
@@ -36,7 +36,7 @@ loop-r-preserved g c =
     c.neg-u.ensures.value ∙ ap o.neg c.conjugate.ensures.value in
     let below : o.add (o.mul c.neg-u.result a) (o.scale b c.args.c) ≡ second o c.args.c c.args.t a b =
     ap (λ (x : g.row.T.Denot). o.add (o.mul x a) (o.scale b c.args.c)) u in
-    ap (rows_of d w n) c.turn-entries.ensures ∙
+    ap (rows_of d w n) c.turn_entries.ensures ∙
     turned_more d w n o c.args.c c.args.t i next cells (rows_of d w n c.args.cells.now) r p q a b
     (o.add (o.scale a c.args.c) (o.mul c.args.t b))
     (o.add (o.mul c.neg-u.result a) (o.scale b c.args.c))

@@ -5,12 +5,17 @@ use Rattle.job.proofs.Gathers.{blank_gathered}
 use Rattle.job.proofs.Starts.{blank_is, opens, side_few, side_some, tolerable, upward}
 use Rattle.job.proofs.calls.Job+T+T+Real.open.Goals as goal
 
-pub invariant-of-result : goal.invariant-of-result
-invariant-of-result g c =
-    let s : is_side c.args.side ≡ true = search rules in (
-      side_some c.args.side s,
-      (side_few c.args.side s, (c.in-Ok.ensures.len, (tolerable, (upward, (lit≤ tt, (lit≤ tt, tt)))))),
-    )
+pub invariant_of-result : goal.invariant_of-result
+invariant_of-result g c =
+    let s : is_side c.args.side ≡ true = search rules in record {
+      some = side_some c.args.side s;
+      few = side_few c.args.side s;
+      whole = c.in-Ok.ensures.len;
+      tolerable = tolerable;
+      upward = upward;
+      limited = lit≤ tt;
+      bounded = lit≤ tt;
+    }
 
 pub returns : goal.returns
 returns g c =

@@ -15,7 +15,7 @@ returns g c =
       gathered =
           λ h. subst (λ (j : Typed g.row.T.Denot g.row.T-Real.Denot). Gathered g.T.Arithmetic.ops g.T.Real.RealScalar.real j)
           (sym (ap (λ (p : Outcome g.row.T.Denot g.row.T-Real.Denot). p.1) o))
-          (putting_gathered g.T.Arithmetic.ops g.T.Real.RealScalar.real g.met.Real.RealScalar.larger_of c.size.ensures.laws
+          (putting_gathered g.T.Arithmetic.ops g.T.Real.RealScalar.real g.met.T.Real.RealScalar.larger_of c.size.ensures.laws
           (typed c.args.self.now) c.args.row c.args.column c.args.x
           (subst (λ s. T (g.T.Real.RealScalar.real.is_finite s) → T (g.T.Real.RealScalar.real.is_size s)) c.size.ensures.value
           c.size.ensures.sized)

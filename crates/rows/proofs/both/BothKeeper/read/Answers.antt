@@ -6,4 +6,4 @@ pub returns-then-fit : goal.returns-then-fit
 returns-then-fit g c =
     let a = g.A.Keeper.kept c.args.self.now.first in
     let b = g.B.Keeper.kept c.args.self.now.second in
-    record { answer = c.read-either.ensures ∙ either_cell_is a b c.args.row c.args.column (sym c.if-fit.ensures) }
+    record { answer = c.read_either.ensures ∙ either_cell_is a b c.args.row c.args.column (sym c.if-fit.ensures) }

@@ -5,8 +5,8 @@ use Rattle.rows.specs.Turns.{turn_of}
 use Rattle.rows.proofs.Held.{both_width, both_answer, both_turned}
 use Rattle.rows.proofs.both.BothKeeper.turn.Goals as goal
 
-pub turn-each-requires : goal.turn-each-requires
-turn-each-requires g c =
+pub turn_each-requires : goal.turn_each-requires
+turn_each-requires g c =
     both_width (g.A.Keeper.kept c.args.self.now.first) (g.B.Keeper.kept c.args.self.now.second)
     (sym c.if-fit.ensures)
 
@@ -18,8 +18,8 @@ returns-then-fit g c =
     let o = g.T.Arithmetic.ops in
     let t = turn_of c.args.column c.args.c c.args.s c.args.direction in
     record {
-      answer = c.turn-each.ensures.answer ∙ both_answer a b c.args.column fit;
-      rows = ap (λ (k : Kept g.row.T.Denot). both k (g.B.Keeper.kept c.turn-each.new.second)) c.turn-each.ensures.first
-          ∙ ap (both (kept_turned o t a)) c.turn-each.ensures.second
+      answer = c.turn_each.ensures.answer ∙ both_answer a b c.args.column fit;
+      rows = ap (λ (k : Kept g.row.T.Denot). both k (g.B.Keeper.kept c.turn_each.new.second)) c.turn_each.ensures.first
+          ∙ ap (both (kept_turned o t a)) c.turn_each.ensures.second
           ∙ both_turned o t a b fit;
     }
