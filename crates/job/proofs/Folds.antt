@@ -78,7 +78,7 @@ module _ {C R : Type 0} (ops : Ops C R) (real : RealOps R) (laws : LargerLaws re
             largest_set (set xs p y) q x sy (All-set (HasSize ops real) (set xs p y) q x k sy) k
             (rw (length-set xs p y) lq) (get_or-set_other xs p q y ops.zero ne ∙ eq) ∙
             ap (λ n. real.larger n (ops.size x)) (largest_set xs p y s sy ky lp ep ∙ ap (real.larger (largest_size ops real xs)) same) ∙
-            laws.assoc (largest_size ops real xs) (ops.size x) (ops.size x) (largest_size xs s) k k ∙
+            laws.assoc (largest_size ops real xs) (ops.size x) (ops.size x) (largest_is_size xs s) k k ∙
             ap (real.larger (largest_size ops real xs)) (laws.idem (ops.size x) k)
 
 module _ {C R : Type 0} (ops : Ops C R) (real : RealOps R) (sizes : SizeLaws ops real) where

@@ -6,8 +6,8 @@ pub returns : goal.returns
 returns g c =
     record {
       cells =
-          c.in-ok-resize.ensures.items ∙
+          c.in_ok-resize.ensures.items ∙
           resized (c.args.side * c.args.side) (vec_len c.new-cells.result) (vec_items c.new-cells.result) None
           c.new-cells.ensures.items c.new-cells.ensures.len;
-      len = c.in-ok-resize.ensures.len;
+      len = c.in_ok-resize.ensures.len;
     }

@@ -2,10 +2,10 @@ use Rattle.std.proofs.Common.{◌≡◌, Bool, cond, sym, ap, ◌∙◌}
 use Rattle.tridiagonal.specs.Blas.{axpy_of, axc_of, axcpy_of}
 use Rattle.tridiagonal.proofs.blas.axpy.Goals as goal
 
-pub returns-then-is-zero : goal.returns-then-is-zero
+pub returns-then-is_zero : goal.returns-then-is_zero
 unfolding axpy_of
-returns-then-is-zero g c = let is = c.if-is-zero.ensures in rw (← is.value) c.axc.ensures
+returns-then-is_zero g c = let is = c.if-is_zero.ensures in rw (← is.value) c.axc.ensures
 
-pub returns-else-is-zero : goal.returns-else-is-zero
+pub returns-else-is_zero : goal.returns-else-is_zero
 unfolding axpy_of
-returns-else-is-zero g c = let is = c.if-is-zero.ensures in rw (← is.value) c.axcpy.ensures
+returns-else-is_zero g c = let is = c.if-is_zero.ensures in rw (← is.value) c.axcpy.ensures

@@ -4,14 +4,14 @@ use Rattle.tridiagonal.proofs.blas.dotc.Goals as goal
 
 pub loop-i-init : goal.loop-i-init
 loop-i-init g c =
-    (omega arith, dotc_start g.T.Arithmetic.ops c.no-sums-sums.result c.args.x.now c.args.y.now c.no-sums-sums.ensures)
+    (omega arith, dotc_start g.T.Arithmetic.ops c.no_sums-sums.result c.args.x.now c.args.y.now c.no_sums-sums.ensures)
 
 pub loop-i-preserved : goal.loop-i-preserved
 loop-i-preserved g c =
     let h : 8 ≤ length c.args.x.now - c.loop-i.i = omega arith in (
       omega arith,
       dotc_more g.T.Arithmetic.ops c.args.x.now c.args.y.now c.loop-i.i (length c.args.x.now) c.loop-i.sums
-          c.eight-more-sums.result h c.eight-more-sums.ensures ∙ c.loop-i.invariant.1,
+          c.eight_more-sums.result h c.eight_more-sums.ensures ∙ c.loop-i.invariant.1,
     )
 
 pub loop-k-init : goal.loop-k-init
@@ -22,10 +22,10 @@ loop-k-init g c =
 
 pub loop-k-preserved : goal.loop-k-preserved
 loop-k-preserved g c =
-    let in-x : c.loop-k.k < length c.args.x.now = omega arith in
-    let in-y : c.loop-k.k < length c.args.y.now = omega arith in
+    let in_x : c.loop-k.k < length c.args.x.now = omega arith in
+    let in_y : c.loop-k.k < length c.args.y.now = omega arith in
     products_more g.T.Arithmetic.ops c.args.x.now c.args.y.now c.loop-k.k c.loop-k.sum
-    c.plus-product-sum.result in-x in-y c.plus-product-sum.ensures ∙ c.loop-k.invariant
+    c.plus_product-sum.result in_x in_y c.plus_product-sum.ensures ∙ c.loop-k.invariant
 
 pub returns : goal.returns
 returns g c =

@@ -14,15 +14,15 @@ column-requires g c =
     let held = column_held 0 (c.args.n - c.args.k) c.args.n some in
     record { rows = omega arith; held = omega arith }
 
-pub hegemv-first-requires : goal.hegemv-first-requires
-hegemv-first-requires g c =
+pub hegemv_first-requires : goal.hegemv_first-requires
+hegemv_first-requires g c =
     let n = c.args.n in let k = c.args.k in
     let some : 0 < n - k = omega arith in
     let held = column_held 0 (n - k) n some in
     let from = zero-mul n in
     let there : n - k ≤ length (drop (0 * n + k) c.args.t.now) = let d = length-drop (0 * n + k) c.args.t.now in omega arith in
     let long = ap length c.column.ensures ∙ length-take-le (n - k) (drop (0 * n + k) c.args.t.now) there in
-    record { some = omega arith; as-x = long ∙ sym c.requires.as-x; as-p = omega arith }
+    record { some = omega arith; as_x = long ∙ sym c.requires.as_x; as_p = omega arith }
 
 pub loop-j-init : goal.loop-j-init
 loop-j-init g c =
@@ -34,10 +34,10 @@ loop-j-init g c =
     let from : 0 * n + k ≡ 0 + k = omega (arith, zero-mul n) in
     let cols = lower_more n k (n - k) 0 (1 * n) t all some one in
     let col = c.column.ensures ∙ ap (λ (i : ℕ). take (n - k) (drop i t)) from in
-    let made = c.hegemv-first.ensures
+    let made = c.hegemv_first.ensures
     ∙ ap (λ (l : List g.row.T.Denot). first_sum o c.args.alpha l c.args.x.now ∷
     drop 1 (first_column o c.args.alpha l c.args.x.now)) col in
-    hegemv_start o c.args.alpha (take (n - k) (drop (0 + k) t)) c.args.x.now c.hegemv-first.new.p
+    hegemv_start o c.args.alpha (take (n - k) (drop (0 + k) t)) c.args.x.now c.hegemv_first.new.p
     (lower n (k + 1) (n - k - 1) (drop (1 * n) t)) made
     ∙ ap (λ (l : List (List g.row.T.Denot)). hegemv_of o c.args.alpha l c.args.x.now) (sym cols)
 
@@ -46,8 +46,8 @@ column-requires-in-loop-j g c =
     let held = column_held c.loop-j.j (c.args.n - c.args.k) c.args.n c.loop-j-test.true in
     record { rows = omega arith; held = omega arith }
 
-pub hegemv-column-requires : goal.hegemv-column-requires
-hegemv-column-requires g c =
+pub hegemv_column-requires : goal.hegemv_column-requires
+hegemv_column-requires g c =
     let n = c.args.n in let k = c.args.k in let j = c.loop-j.j in let t = c.args.t.now in
     let held = column_held j (n - k) n c.loop-j-test.true in
     let there : n - (k + j) ≤ length (drop (j * n + (k + j)) t) = let d = length-drop (j * n + (k + j)) t in omega arith in
@@ -55,19 +55,19 @@ hegemv-column-requires g c =
     let x-long = ap length (take_rest c.args.x.now j) ∙ length-drop j c.args.x.now in
     let p-long = ap length (take_rest c.loop-j.p j) ∙ length-drop j c.loop-j.p in
     let same = c.loop-j.auto.p in
-    let first = c.hegemv-first.auto.p in
-    record { some = omega arith; as-x = omega arith; as-p = omega arith }
+    let first = c.hegemv_first.auto.p in
+    record { some = omega arith; as_x = omega arith; as_p = omega arith }
 
 pub loop-j-preserved : goal.loop-j-preserved
 loop-j-preserved g c =
     let n = c.args.n in let k = c.args.k in let j = c.loop-j.j in let t = c.args.t.now in
     let x = c.args.x.now in let p = c.loop-j.p in let a = c.args.alpha in
     let o = g.T.Arithmetic.ops in
-    let q = put_mid j (length p - j) p c.hegemv-column.new.p in
+    let q = put_mid j (length p - j) p c.hegemv_column.new.p in
     let all : k + j + (n - k - j) ≡ n = omega arith in
     let some : 0 < n - k - j = omega arith in
     let same = c.loop-j.auto.p in
-    let first = c.hegemv-first.auto.p in
+    let first = c.hegemv_first.auto.p in
     let within : j ≤ length p = omega arith in
     let row : k + (j + 1) ≡ k + j + 1 = omega arith in
     let count : n - k - (j + 1) ≡ n - k - j - 1 = omega arith in
@@ -76,10 +76,10 @@ loop-j-preserved g c =
     let x-part = take_rest x j in
     let p-part = take_rest p j in
     let col = take (n - (k + j)) (drop (j * n + (k + j)) t) in
-    let made : c.hegemv-column.new.p ≡ row_sum o a col (drop j x) (drop j p) ∷ below_sum o a col (drop j x) (drop j p) =
-    cc (c.hegemv-column.ensures, c.column-in-loop-j.ensures) in
+    let made : c.hegemv_column.new.p ≡ row_sum o a col (drop j x) (drop j p) ∷ below_sum o a col (drop j x) (drop j p) =
+    cc (c.hegemv_column.ensures, c.column-in-loop-j.ensures) in
     let write : q ≡ take j p ++ (row_sum o a col (drop j x) (drop j p) ∷ below_sum o a col (drop j x) (drop j p)) =
-    end_written j p c.hegemv-column.new.p ∙ ap (λ (l : List g.row.T.Denot). take j p ++ l) made in
+    end_written j p c.hegemv_column.new.p ∙ ap (λ (l : List g.row.T.Denot). take j p ++ l) made in
     ap (λ (i : ℕ). take (j + 1) q ++
     hegemv_from o a (lower n i (n - k - (j + 1)) (drop ((j + 1) * n) t)) (drop (j + 1) x) (drop (j + 1) q)) row
     ∙ ap (λ (i : ℕ). take (j + 1) q ++

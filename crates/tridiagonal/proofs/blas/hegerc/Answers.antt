@@ -9,19 +9,19 @@ use Rattle.tridiagonal.proofs.Products.{hegerc_more, shaped_hegerc}
 use Rattle.tridiagonal.proofs.Writes.{written}
 use Rattle.tridiagonal.proofs.blas.hegerc.Goals as goal
 
-pub axpy-column-requires : goal.axpy-column-requires
-axpy-column-requires g c =
+pub axpy_column-requires : goal.axpy_column-requires
+axpy_column-requires g c =
     let held = column_held c.loop-j.j (c.args.n - c.args.k) c.args.n c.loop-j-test.true in
     let same = c.loop-j.auto.t in
     let x-long = ap length (take_rest c.args.x.now c.loop-j.j) ∙ length-drop c.loop-j.j c.args.x.now in
-    record { rows = omega arith; held = omega arith; as-x = omega arith }
+    record { rows = omega arith; held = omega arith; as_x = omega arith }
 
 pub loop-j-preserved : goal.loop-j-preserved
 loop-j-preserved g c =
     let n = c.args.n in let k = c.args.k in let j = c.loop-j.j in let t = c.loop-j.t in
     let x = c.args.x.now in let y = c.args.y.now in let a = c.args.alpha in
     let o = g.T.Arithmetic.ops in
-    let u = c.axpy-column.new.t in
+    let u = c.axpy_column.new.t in
     let same = c.loop-j.auto.t in
     let held = column_held j (n - k) n c.loop-j-test.true in
     let next = column_next j n in
@@ -38,7 +38,7 @@ loop-j-preserved g c =
     let old = take (n - (k + j)) (drop (j * n + (k + j)) t) in
     let made = axpy_of o (o.mul a (o.conj (get_or (drop j y) 0 o.zero))) (drop j x) o.one old in
     let write : u ≡ put_mid (j * n + (k + j)) ((j + 1) * n - (j * n + (k + j))) t made =
-    cc c.axpy-column.ensures in
+    cc c.axpy_column.ensures in
     let row : k + j + 1 ≡ k + (j + 1) = omega arith in
     let count : n - k - j - 1 ≡ n - k - (j + 1) = omega arith in
     let xs = drop-drop 1 j x in
@@ -62,7 +62,7 @@ returns g c =
     ∙ ap (λ (l : List g.row.T.Denot). take (j * n) end ++ l) (sym (put_none n (k + j) left (drop (j * n) end)))
     ∙ ap (λ (m : ℕ). take (j * n) end ++ put n (k + j) m left (drop (j * n) end)) (sym none)
     ∙ c.loop-j.invariant in
-    let shape = shaped_hegerc o a (n - k) x y (lower n k (n - k) t) (shaped_lower n k (n - k) t all held) c.requires.as-x in
+    let shape = shaped_hegerc o a (n - k) x y (lower n k (n - k) t) (shaped_lower n k (n - k) t all held) c.requires.as_x in
     record {
       table = table;
       lower = ap (lower n k (n - k)) table ∙ lower_put n k (n - k) (hegerc_of o a x y (lower n k (n - k) t)) t all held shape;

@@ -3,20 +3,20 @@ use Rattle.tridiagonal.specs.Householder.{kind}
 use Rattle.tridiagonal.proofs.Accepted.{refused_side, refused_length, refused_entry}
 use Rattle.tridiagonal.proofs.checks.reduce_refused.Goals as goal
 
-pub returns-then-side-refused : goal.returns-then-side-refused
-returns-then-side-refused g c =
+pub returns-then-side_refused : goal.returns-then-side_refused
+returns-then-side_refused g c =
     sym (refused_side (kind g.T.Arithmetic.ops g.T.Real.Arithmetic.ops g.T.Real.RealScalar.real) c.args.n c.args.table.now
-    c.args.values c.args.offs c.args.signs c.args.scratch (sym c.side-refused.ensures ∙ c.if-side-refused.true))
+    c.args.values c.args.offs c.args.signs c.args.scratch (sym c.side_refused.ensures ∙ c.if-side_refused.true))
 
-pub returns-then-not-lengths-agree : goal.returns-then-not-lengths-agree
-returns-then-not-lengths-agree g c =
+pub returns-then-not-lengths_agree : goal.returns-then-not-lengths_agree
+returns-then-not-lengths_agree g c =
     sym (refused_length (kind g.T.Arithmetic.ops g.T.Real.Arithmetic.ops g.T.Real.RealScalar.real) c.args.n c.args.table.now
-    c.args.values c.args.offs c.args.signs c.args.scratch (sym c.side-refused.ensures ∙ c.if-side-refused.false)
-    (sym c.lengths-agree.ensures ∙ c.if-not-lengths-agree.true))
+    c.args.values c.args.offs c.args.signs c.args.scratch (sym c.side_refused.ensures ∙ c.if-side_refused.false)
+    (sym c.lengths_agree.ensures ∙ c.if-not-lengths_agree.true))
 
 pub returns : goal.returns
 returns g c =
-    c.entry-refused.ensures
+    c.entry_refused.ensures
     ∙ sym (refused_entry (kind g.T.Arithmetic.ops g.T.Real.Arithmetic.ops g.T.Real.RealScalar.real) c.args.n
     c.args.table.now c.args.values c.args.offs c.args.signs c.args.scratch
-    (sym c.side-refused.ensures ∙ c.if-side-refused.false) (sym c.lengths-agree.ensures ∙ c.if-not-lengths-agree.false))
+    (sym c.side_refused.ensures ∙ c.if-side_refused.false) (sym c.lengths_agree.ensures ∙ c.if-not-lengths_agree.false))

@@ -19,28 +19,28 @@ loop-i-init g c =
           (c.args.n - 1) _ c.args.signs.now full),
     )
 
-pub overflow-mul-i : goal.overflow-mul-i
-overflow-mul-i g c =
-    let k = held c.loop-i.i c.args.n (length c.args.q.now) c.loop-i-test.true c.loop-i.invariant.0 c.requires.as-q in
+pub overflow_mul-i : goal.overflow_mul-i
+overflow_mul-i g c =
+    let k = held c.loop-i.i c.args.n (length c.args.q.now) c.loop-i-test.true c.loop-i.invariant.0 c.requires.as_q in
     search rules
 
-pub offset-bounds-q-i : goal.offset-bounds-q-i
-offset-bounds-q-i g c =
+pub offset_bounds-q-i : goal.offset_bounds-q-i
+offset_bounds-q-i g c =
     let k = held c.loop-i.i c.args.n (length c.loop-i.q) c.loop-i-test.true c.loop-i.invariant.0
-    (c.loop-i.auto.q ∙ c.identity.auto.q ∙ c.requires.as-q) in
+    (c.loop-i.auto.q ∙ c.identity.auto.q ∙ c.requires.as_q) in
     let within : (c.loop-i.i - 1) * c.args.n ≤ length c.loop-i.q = omega arith in
     search (rules, scaled_fits≤)
 
-pub slice-bounds-reflect-columns-count : goal.slice-bounds-reflect-columns-count
-slice-bounds-reflect-columns-count g c =
+pub slice_bounds-reflect_columns-count : goal.slice_bounds-reflect_columns-count
+slice_bounds-reflect_columns-count g c =
     let k = held c.loop-i.i c.args.n (length c.loop-i.q) c.loop-i-test.true c.loop-i.invariant.0
-    (c.loop-i.auto.q ∙ c.identity.auto.q ∙ c.requires.as-q) in
+    (c.loop-i.auto.q ∙ c.identity.auto.q ∙ c.requires.as_q) in
     omega arith
 
-pub slice-bounds-reflect-columns-start : goal.slice-bounds-reflect-columns-start
-slice-bounds-reflect-columns-start g c =
+pub slice_bounds-reflect_columns-start : goal.slice_bounds-reflect_columns-start
+slice_bounds-reflect_columns-start g c =
     let k = held c.loop-i.i c.args.n (length c.loop-i.q) c.loop-i-test.true c.loop-i.invariant.0
-    (c.loop-i.auto.q ∙ c.identity.auto.q ∙ c.requires.as-q) in
+    (c.loop-i.auto.q ∙ c.identity.auto.q ∙ c.requires.as_q) in
     omega arith
 
 pub column-requires : goal.column-requires
@@ -48,19 +48,19 @@ column-requires g c =
     let k = held c.loop-i.i c.args.n (length c.args.table.now) c.loop-i-test.true c.loop-i.invariant.0 c.requires.held in
     record { rows = omega (arith, c.loop-i.invariant.0); held = k }
 
-pub reflect-columns-requires : goal.reflect-columns-requires
-reflect-columns-requires g c =
+pub reflect_columns-requires : goal.reflect_columns-requires
+reflect_columns-requires g c =
     let n = c.args.n in let p = c.loop-i.i - 1 in let t = c.args.table.now in let q = c.loop-i.q in
     let below = c.loop-i.invariant.0 in
     let k = held c.loop-i.i n (length t) c.loop-i-test.true below c.requires.held in
     let whole = columns_split p n (omega arith) in
-    let same : length q ≡ n * n = c.loop-i.auto.q ∙ c.identity.auto.q ∙ c.requires.as-q in
+    let same : length q ≡ n * n = c.loop-i.auto.q ∙ c.identity.auto.q ∙ c.requires.as_q in
     let q-long = ap length (take_rest q (p * n)) ∙ length-drop (p * n) q in
     let there : n - (p + 1) ≤ length (drop (p * n + (p + 1)) t) = let d = length-drop (p * n + (p + 1)) t in omega arith in
     record {
       rows = omega arith;
       held = omega arith;
-      as-axis = ap length c.column.ensures ∙ length-take-le (n - (p + 1)) (drop (p * n + (p + 1)) t) there;
+      as_axis = ap length c.column.ensures ∙ length-take-le (n - (p + 1)) (drop (p * n + (p + 1)) t) there;
     }
 
 pub loop-i-preserved : goal.loop-i-preserved
@@ -73,8 +73,8 @@ loop-i-preserved g c =
     let on : i ≡ p + 1 = omega arith in
     let was = c.loop-i.invariant.1 ∙ ap (λ (m : ℕ). assembled_from K n m (lower n m (n - m) (drop (m * n) t)) (drop m signs)) on in (
       omega arith,
-      assembled_more K n p t signs c.loop-i.q _ c.reflect-columns.new.q _ c.column.result.now c.index-signs-i.result
-          c.norm-sign.result some has c.index-signs-i.is c.norm-sign.ensures c.column.ensures refl c.reflect-columns.ensures
+      assembled_more K n p t signs c.loop-i.q _ c.reflect_columns.new.q _ c.column.result.now c.index-signs-i.result
+          c.norm_sign.result some has c.index-signs-i.is c.norm_sign.ensures c.column.ensures refl c.reflect_columns.ensures
           refl was,
     )
 

@@ -6,8 +6,8 @@ use Rattle.tridiagonal.proofs.Columns.{column_held, column_next}
 use Rattle.tridiagonal.proofs.Writes.{written}
 use Rattle.tridiagonal.proofs.matrix_q.identity.Goals as goal
 
-pub unit-column-at-requires : goal.unit-column-at-requires
-unit-column-at-requires g c =
+pub unit_column_at-requires : goal.unit_column_at-requires
+unit_column_at-requires g c =
     let held = column_held c.loop-j.j c.args.n c.args.n c.loop-j-test.true in
     let same = c.loop-j.auto.q in omega arith
 
@@ -19,7 +19,7 @@ loop-j-preserved g c =
     let next = column_next j n in
     let ends : (j + 1) * n ≤ length c.loop-j.q = omega arith in
     identity_more (kind g.T.Arithmetic.ops g.T.Real.Arithmetic.ops g.T.Real.RealScalar.real) n j (j * n) ((j + 1) * n) c.loop-j.q
-    c.unit-column-at.new.q c.loop-j-test.true next ends c.unit-column-at.ensures ∙ c.loop-j.invariant
+    c.unit_column_at.new.q c.loop-j-test.true next ends c.unit_column_at.ensures ∙ c.loop-j.invariant
 
 pub returns : goal.returns
 returns g c =

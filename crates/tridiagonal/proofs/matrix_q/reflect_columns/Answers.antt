@@ -5,11 +5,11 @@ use Rattle.tridiagonal.proofs.Assembled.{reflected_more, reflected_none}
 use Rattle.tridiagonal.proofs.Columns.{column_held, column_next}
 use Rattle.tridiagonal.proofs.matrix_q.reflect_columns.Goals as goal
 
-pub reflect-column-requires : goal.reflect-column-requires
-reflect-column-requires g c =
+pub reflect_column-requires : goal.reflect_column-requires
+reflect_column-requires g c =
     let held = column_held c.loop-j.j c.args.m c.args.n c.loop-j-test.true in
     let same = c.loop-j.auto.q in
-    record { rows = c.requires.rows; held = omega arith; as-axis = c.requires.as-axis }
+    record { rows = c.requires.rows; held = omega arith; as_axis = c.requires.as_axis }
 
 pub loop-j-preserved : goal.loop-j-preserved
 loop-j-preserved g c =
@@ -19,8 +19,8 @@ loop-j-preserved g c =
     let next = column_next j n in
     let ends : (j + 1) * n ≤ length c.loop-j.q = omega arith in
     reflected_more (kind g.T.Arithmetic.ops g.T.Real.Arithmetic.ops g.T.Real.RealScalar.real) n c.args.r c.args.axis.now
-    c.args.sign c.requires.rows c.requires.as-axis j c.args.m (j * n) ((j + 1) * n) c.loop-j.q c.reflect-column.new.q
-    c.loop-j-test.true next ends c.reflect-column.ensures ∙ c.loop-j.invariant
+    c.args.sign c.requires.rows c.requires.as_axis j c.args.m (j * n) ((j + 1) * n) c.loop-j.q c.reflect_column.new.q
+    c.loop-j-test.true next ends c.reflect_column.ensures ∙ c.loop-j.invariant
 
 pub returns : goal.returns
 returns g c =
@@ -29,6 +29,6 @@ returns g c =
     let none : c.args.m - j ≡ 0 = omega arith in
     sym (take-append-drop (j * n) q)
     ∙ ap (λ (l : List g.row.T.Denot). take (j * n) q ++ l)
-    (sym (reflected_none K n c.args.r c.args.axis.now c.args.sign c.requires.rows c.requires.as-axis (drop (j * n) q)))
+    (sym (reflected_none K n c.args.r c.args.axis.now c.args.sign c.requires.rows c.requires.as_axis (drop (j * n) q)))
     ∙ ap (λ (k : ℕ). take (j * n) q ++ reflected_columns K n c.args.r c.args.axis.now c.args.sign k (drop (j * n) q)) (sym none)
     ∙ c.loop-j.invariant

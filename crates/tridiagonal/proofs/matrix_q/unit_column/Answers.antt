@@ -9,7 +9,7 @@ pub loop-i-preserved : goal.loop-i-preserved
 loop-i-preserved g c =
     let within : c.loop-i.i < length c.loop-i.column = omega arith in
     unit_more (kind g.T.Arithmetic.ops g.T.Real.Arithmetic.ops g.T.Real.RealScalar.real) c.args.j c.loop-i.i
-    (length c.args.column.now) c.loop-i.column c.unit-entry.result c.loop-i-test.true within c.unit-entry.ensures
+    (length c.args.column.now) c.loop-i.column c.unit_entry.result c.loop-i-test.true within c.unit_entry.ensures
     ∙ c.loop-i.invariant
 
 pub returns : goal.returns

@@ -8,8 +8,8 @@ use Rattle.tridiagonal.proofs.Accepted.{accepted}
 use Rattle.tridiagonal.proofs.Law.{only_lower, refused_run, accepted_run}
 use Rattle.tridiagonal.proofs.symmetric_tridiagonal.reduce_checked.Goals as goal
 
-pub reduce-accepted-requires : goal.reduce-accepted-requires
-reduce-accepted-requires g c =
+pub reduce_accepted-requires : goal.reduce_accepted-requires
+reduce_accepted-requires g c =
     let ok = accepted (kind g.T.Arithmetic.ops g.T.Real.Arithmetic.ops g.T.Real.RealScalar.real) c.args.n c.args.table.now
     (length c.args.values.now) (length c.args.offs.now) (length c.args.signs.now) (length c.args.scratch.now)
     (sym c.in-None.ensures) in
@@ -38,7 +38,7 @@ pub returns-in-None : goal.returns-in-None
 returns-in-None g c =
     let K = kind g.T.Arithmetic.ops g.T.Real.Arithmetic.ops g.T.Real.RealScalar.real in
     let given = buffers c.args.table.now c.args.values.now c.args.offs.now c.args.signs.now c.args.scratch.now in
-    let did = c.reduce-accepted in
+    let did = c.reduce_accepted in
     let left = buffers did.new.table did.new.values did.new.offs did.new.signs did.new.scratch in
     let answer = Reduced did.result.side did.result.largest in
     let is : answer ≡ Reduced c.args.n (largest_size K c.args.table.now) =

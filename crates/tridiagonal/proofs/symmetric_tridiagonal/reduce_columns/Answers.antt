@@ -9,24 +9,24 @@ use Rattle.tridiagonal.proofs.symmetric_tridiagonal.reduce_columns.Goals as goal
 held : (i n l : ℕ) → i < n - 1 → l ≡ n * n → i * n + n ≤ l
 held i n l h e = let less : i < n = omega arith in let k = column_held i n n less in omega arith
 
-pub overflow-mul-i : goal.overflow-mul-i
-overflow-mul-i g c =
+pub overflow_mul-i : goal.overflow_mul-i
+overflow_mul-i g c =
     let k = held c.loop-i.i c.args.n (length c.loop-i.table) c.loop-i-test.true (c.loop-i.auto.table ∙ c.requires.held) in
     search rules
 
-pub offset-bounds-table-i : goal.offset-bounds-table-i
-offset-bounds-table-i g c =
+pub offset_bounds-table-i : goal.offset_bounds-table-i
+offset_bounds-table-i g c =
     let k = held c.loop-i.i c.args.n (length c.loop-i.table) c.loop-i-test.true (c.loop-i.auto.table ∙ c.requires.held) in
     let within : c.loop-i.i * c.args.n ≤ length c.loop-i.table = omega arith in
     search (rules, scaled_fits≤)
 
-pub slice-bounds-step-count : goal.slice-bounds-step-count
-slice-bounds-step-count g c =
+pub slice_bounds-step-count : goal.slice_bounds-step-count
+slice_bounds-step-count g c =
     let k = held c.loop-i.i c.args.n (length c.loop-i.table) c.loop-i-test.true (c.loop-i.auto.table ∙ c.requires.held) in
     omega arith
 
-pub slice-bounds-step-start : goal.slice-bounds-step-start
-slice-bounds-step-start g c =
+pub slice_bounds-step-start : goal.slice_bounds-step-start
+slice_bounds-step-start g c =
     let k = held c.loop-i.i c.args.n (length c.loop-i.table) c.loop-i-test.true (c.loop-i.auto.table ∙ c.requires.held) in
     omega arith
 
@@ -39,7 +39,7 @@ step-norm-requires g c =
     let s-long = ap length (take_rest c.loop-i.signs i) ∙ length-drop i c.loop-i.signs in
     let p-long = ap length (take_rest c.loop-i.scratch i) ∙ length-drop i c.loop-i.scratch in
     let t_same = c.loop-i.auto.table in let s-same = c.loop-i.auto.signs in let p-same = c.loop-i.auto.scratch in
-    record { some = omega arith; held = omega arith; wide = omega arith; as-axis = omega arith; as-p = omega arith }
+    record { some = omega arith; held = omega arith; wide = omega arith; as_axis = omega arith; as_p = omega arith }
 
 pub loop-i-preserved : goal.loop-i-preserved
 loop-i-preserved g c =

@@ -5,9 +5,9 @@ use Rattle.job.proofs.calls.Job+T+T+Real.table.Goals as goal
 
 pub loop-cell-preserved : goal.loop-cell-preserved
 loop-cell-preserved g c =
-    let p : vec_items c.push-number.new.table ≡
+    let p : vec_items c.push_number.new.table ≡
     vec_items c.loop-cell.table ++ entry_of g.T.Arithmetic.ops c.cell-item.result ∷ [] =
-    c.in-ok-push-number.ensures.pushed
+    c.in_ok-push_number.ensures.pushed
     in
     let m =
     map_more (entry_of g.T.Arithmetic.ops) c.deref-cell-items.result.now c.loop-cell.cell-index c.cell-item.result
