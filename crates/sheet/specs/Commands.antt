@@ -7,7 +7,7 @@ use Rattle.sheet.specs.declared.command.Command.{Command}
 use Rattle.sheet.specs.declared.command.Command.TheVariants as command
 use Rattle.sheet.specs.declared.command.Step.{Step}
 use Rattle.sheet.specs.declared.command.Step.TheVariants as step
-use Rattle.sheet.specs.declared.fault.Refusal.{Refusal}
+use Rattle.sheet.specs.declared.sheet_fault.Refusal.{Refusal}
 use Rattle.sheet.specs.Bytes.{field}
 use Rattle.sheet.specs.Faults.{Why, why, rule}
 

@@ -3,8 +3,8 @@ use Rattle.std.specs.Prelude.{ℕ, [], Some, None, Option}
 use Rattle.fault.specs.Refusals.{Refusal as Known, refused, refusal}
 use Rattle.job.specs.declared.rejected.Unopened.{Unopened}
 use Rattle.job.specs.declared.rejected.Unopened.TheVariants as un
-use Rattle.sheet.specs.declared.fault.SheetFault.{SheetFault}
-use Rattle.sheet.specs.declared.fault.SheetFault.TheVariants.{Solver, Command, Cut, Order, Operand, Twice, Memory}
+use Rattle.sheet.specs.declared.sheet_fault.SheetFault.{SheetFault}
+use Rattle.sheet.specs.declared.sheet_fault.SheetFault.TheVariants.{Solver, Command, Cut, Order, Operand, Twice, Memory}
 
 -- A rule that a sheet breaks, or want of memory, which is no rule's.
 pub data Why : Type 0 where

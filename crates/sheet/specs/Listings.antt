@@ -2,7 +2,7 @@
 use Rattle.std.specs.Prelude.{ℕ, cond, List, [], map, length, Some, None, vec_items, Option, nat_lt, to_bits}
 use Rattle.std.specs.Float.{binary64}
 use Rattle.fault.specs.Refusals.{refused}
-use Rattle.sheet.specs.declared.fault.Refusal.{Refusal}
+use Rattle.sheet.specs.declared.sheet_fault.Refusal.{Refusal}
 use Rattle.sheet.specs.declared.listing.Listing.{Listing}
 use Rattle.sheet.specs.declared.text.Heading.{Heading}
 use Rattle.sheet.specs.Faults.{why, rule}

@@ -1,6 +1,6 @@
 -- What the reader's answers mean. Definitions only.
 use Rattle.std.specs.Prelude.{Bool, true, Ok, Err, Result}
-use Rattle.sheet.specs.declared.fault.Refusal.{Refusal}
+use Rattle.sheet.specs.declared.sheet_fault.Refusal.{Refusal}
 use Rattle.sheet.specs.declared.reading.Reading.{Reading as Answer}
 use Rattle.sheet.specs.declared.reading.Reading.TheVariants.{Ended, Closed}
 use Rattle.sheet.specs.Faults.{why}

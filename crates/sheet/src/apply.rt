@@ -15,7 +15,7 @@ ghost use Rattle.job.specs.Opening.{opened};
 use crate::bytes::{u8_at, u16_at, u32_at, u64_at};
 use crate::command::Command;
 use crate::desk::{Applied, Asked, Closed, Desk};
-use crate::fault::SheetFault;
+use crate::sheet_fault::SheetFault;
 use job::{Job, Rejected};
 use scalar::{Arithmetic, Complex};
 use std::alloc::Global;

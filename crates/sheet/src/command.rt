@@ -3,7 +3,7 @@ ghost use Rattle.std.specs.Prelude.{◌≡◌, drop};
 ghost use Rattle.sheet.specs.Commands.{code_of, operand_bytes, saying, placed, refuses, said, stepped, decode, at};
 ghost use Rattle.sheet.specs.Faults.{why};
 
-use crate::fault::{Refusal, SheetFault};
+use crate::sheet_fault::{Refusal, SheetFault};
 
 // Which command a byte begins.
 #[derive(Clone, Copy)]

@@ -1,5 +1,5 @@
 // The desk on which a sheet's tables are typed, one at a time.
-use crate::fault::SheetFault;
+use crate::sheet_fault::SheetFault;
 use job::Job;
 use scalar::Complex;
 

@@ -6,10 +6,10 @@ ghost use Rattle.sheet.specs.Listings.{headed, heading_of, listed, listing_of};
 ghost use Rattle.sheet.specs.Sheets.{run};
 
 use crate::desk::Closed;
-use crate::fault::{Refusal, SheetFault};
 use crate::listing::Listing;
 use crate::read::next_table;
 use crate::reading::Reading;
+use crate::sheet_fault::{Refusal, SheetFault};
 use crate::text::Heading;
 use fault::Fault;
 use std::alloc::Global;

@@ -1,5 +1,5 @@
 // What a whole sheet lists.
-use crate::fault::Refusal;
+use crate::sheet_fault::Refusal;
 use crate::text::Heading;
 
 // The headings of the closed tables in their order, and the refusal that ends the sheet, if any.

@@ -5,8 +5,8 @@ ghost use Rattle.sheet.specs.Faults.{why};
 ghost use Rattle.sheet.specs.Listings.{listing_of};
 ghost use Rattle.sheet.specs.Lines.{heading_line, line, listing_text, refusal_line};
 
-use crate::fault::Refusal;
 use crate::listing::Listing;
+use crate::sheet_fault::Refusal;
 use crate::text::{Heading, heading_line, refusal_line};
 use std::alloc::{AllocError, Global};
 

@@ -8,8 +8,8 @@ ghost use Rattle.sheet.specs.Sheets.{broken, table_from};
 
 use crate::command::{Step, next_command};
 use crate::desk::{Applied, Desk};
-use crate::fault::{Refusal, SheetFault};
 use crate::reading::Reading;
+use crate::sheet_fault::{Refusal, SheetFault};
 use std::alloc::Global;
 
 // A refusal of the command at `place`.

@@ -5,12 +5,12 @@ use Rattle.sheet.proofs.command.next_command.Goals as goal
 pub returns-then-place-sheet : goal.returns-then-place-sheet
 returns-then-place-sheet c = record { decoded = sym (past c.args.sheet.now c.args.place c.if-place-sheet.true) }
 
-pub returns-in-default : goal.returns-in-default
-returns-in-default c =
+pub returns-in_default : goal.returns-in_default
+returns-in_default c =
     record {
       decoded =
           c.refuse.ensures.refusal ∙
-          sym (unknown c.args.sheet.now c.args.place c.if-place-sheet.false (sym c.of.ensures.value ∙ c.in-default.is));
+          sym (unknown c.args.sheet.now c.args.place c.if-place-sheet.false (sym c.of.ensures.value ∙ c.in_default.is));
     }
 
 pub returns-then-count-sheet : goal.returns-then-count-sheet
@@ -20,14 +20,14 @@ returns-then-count-sheet c =
           c.refuse-then-count-sheet.ensures.refusal ∙
           sym (cut c.args.sheet.now c.args.place c.in-Some.code c.if-place-sheet.false
           (sym c.of.ensures.value ∙ c.in-Some.is)
-          (rw c.operand-bytes-count.ensures.value at c.if-count-sheet.true));
+          (rw c.operand_bytes-count.ensures.value at c.if-count-sheet.true));
     }
 
 pub returns : goal.returns
 returns c =
     record {
       decoded =
-          whole c.args.sheet.now c.args.place c.operand-bytes-count.result _ c.in-Some.code _ c.if-place-sheet.false
-          (sym c.of.ensures.value ∙ c.in-Some.is) c.operand-bytes-count.ensures.value c.if-count-sheet.false
+          whole c.args.sheet.now c.args.place c.operand_bytes-count.result _ c.in-Some.code _ c.if-place-sheet.false
+          (sym c.of.ensures.value ∙ c.in-Some.is) c.operand_bytes-count.ensures.value c.if-count-sheet.false
           c.command-command.ensures.place c.command-command.ensures.said;
     }

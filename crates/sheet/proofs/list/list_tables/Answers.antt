@@ -20,7 +20,7 @@ pub tables-preserved : goal.tables-preserved
 tables-preserved c =
     list_more c.args.sheet.now (vec_items c.tables.headings) c.tables.place c.tables.invariant (table_of c.in-Closed.table)
     c.in-Closed.after (vec_items c.push.new.self) (rw c.in-Closed.is at c.in-Ok.ensures.reading)
-    (rw c.heading-of.ensures.heading at c.in-ok-push.ensures.items)
+    (rw c.heading_of.ensures.heading at c.in_ok-push-in-Closed.ensures.items)
 
 pub returns-in-Some : goal.returns-in-Some
 returns-in-Some c = record {

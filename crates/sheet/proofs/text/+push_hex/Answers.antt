@@ -5,9 +5,9 @@ pub returns : goal.returns
 returns t c =
     record {
       digits =
-          pushed _ _ _ _ c.hex-digit.result c.args.count c.args.bits c.if-count-eq0.false
-          c.in-ok-push-hex.ensures.digits c.hex-digit.ensures.value
-          c.in-ok-push.ensures.ascii c.in-ok-push.ensures.bytes;
+          pushed _ _ _ _ c.hex_digit.result c.args.count c.args.bits c.if-count-eq0.false
+          c.in_ok-push_hex.ensures.digits c.hex_digit.ensures.value
+          c.in_ok-push.ensures.ascii c.in_ok-push.ensures.bytes;
     }
 
 pub returns-then-count-eq0 : goal.returns-then-count-eq0

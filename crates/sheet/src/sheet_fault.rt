@@ -2,7 +2,7 @@
 ghost use Rattle.std.specs.Prelude.{◌≡◌};
 ghost use Rattle.job.specs.Rejections.{rejection};
 ghost use Rattle.sheet.specs.Faults.{number_of, rule, unopened, why};
-ghost use Rattle.sheet.specs.declared.fault.SheetFault.TheVariants.{Solver, Memory};
+ghost use Rattle.sheet.specs.declared.sheet_fault.SheetFault.TheVariants.{Solver, Memory};
 
 use fault::Fault;
 use job::{Rejected, Unopened};
