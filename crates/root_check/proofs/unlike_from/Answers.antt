@@ -5,8 +5,8 @@ use Rattle.root_check.proofs.unlike_from.Goals as goal
 pub loop-i-preserved : goal.loop-i-preserved
 loop-i-preserved c =
     let l = c.loop-i in
-    let k = c.unlike-around-n.ensures in (
-      from_again c.args.kind c.args.words l.i l.x l.n c.unlike-around-n.result c.shuffle-x.result _ (omega arith)
+    let k = c.unlike_around-n.ensures in (
+      from_again c.args.kind c.args.words l.i l.x l.n c.unlike_around-n.result c.shuffle-x.result _ (omega arith)
           k.count c.shuffle-x.ensures l.invariant.0,
       omega (arith, k.few),
     )

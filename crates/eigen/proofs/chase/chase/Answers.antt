@@ -11,13 +11,13 @@ pub chase-preserved : goal.chase-preserved
 chase-preserved g c =
     let k = g.K.Keeper.kept c.chase.keeper in
     let wide : c.args.end < k.width = omega (arith, c.chase.invariant.1) in (
-      Turned.chase-preserved g.T.Arithmetic.ops g.T.Real.Arithmetic.ops g.T.Real.RealScalar.real c.args.start c.args.end
+      Turned.chase_again g.T.Arithmetic.ops g.T.Real.Arithmetic.ops g.T.Real.RealScalar.real c.args.start c.args.end
           c.chase.i c.in-Some.found c.chase.bulge _ c.chase.values _ c.chase.offs _ k _ (omega arith) wide
           c.in-Some.ensures.rotation c.step-bulge.ensures.bulge c.step-bulge.ensures.values
-          c.step-bulge.ensures.offs c.turn-back.ensures.rows
+          c.step-bulge.ensures.offs c.turn_back.ensures.rows
           ∙ c.chase.invariant.0,
       turned_width g.T.Arithmetic.ops (turn_of c.chase.i c.in-Some.found.rotation.c c.in-Some.found.rotation.s Back) k _
-          (g.K.Keeper.kept c.args.keeper.now) c.turn-back.ensures.rows c.chase.invariant.1,
+          (g.K.Keeper.kept c.args.keeper.now) c.turn_back.ensures.rows c.chase.invariant.1,
     )
 
 pub returns-after-chase : goal.returns-after-chase
@@ -27,8 +27,8 @@ returns-after-chase g c =
     (chase_over g.T.Real.Arithmetic.ops g.T.Real.RealScalar.real c.args.start c.args.end c.chase.i c.chase.bulge
     c.chase.values c.chase.offs (omega arith)) in
     let whole = chase_whole g.T.Arithmetic.ops g.T.Real.Arithmetic.ops g.T.Real.RealScalar.real c.args.start c.args.end
-    c.first-bulge-bulge.result c.args.values.now c.args.offs.now (g.K.Keeper.kept c.args.keeper.now) _
-    c.first-bulge-bulge.ensures.bulge (sym done ∙ c.chase.invariant.0) in
+    c.first_bulge-bulge.result c.args.values.now c.args.offs.now (g.K.Keeper.kept c.args.keeper.now) _
+    c.first_bulge-bulge.ensures.bulge (sym done ∙ c.chase.invariant.0) in
     record { values = ap (λ l. l.values) whole; offs = ap (λ l. l.offs) whole; rows = ap (λ l. l.kept) whole }
 
 pub returns-in-None : goal.returns-in-None
@@ -38,6 +38,6 @@ returns-in-None g c =
     (chase_left g.T.Real.Arithmetic.ops g.T.Real.RealScalar.real c.args.start c.args.end _ c.chase.i c.chase.bulge
     c.chase.values c.chase.offs c.in-None.ensures.rotation) in
     let whole = chase_whole g.T.Arithmetic.ops g.T.Real.Arithmetic.ops g.T.Real.RealScalar.real c.args.start c.args.end
-    c.first-bulge-bulge.result c.args.values.now c.args.offs.now (g.K.Keeper.kept c.args.keeper.now) _
-    c.first-bulge-bulge.ensures.bulge (sym done ∙ c.chase.invariant.0) in
+    c.first_bulge-bulge.result c.args.values.now c.args.offs.now (g.K.Keeper.kept c.args.keeper.now) _
+    c.first_bulge-bulge.ensures.bulge (sym done ∙ c.chase.invariant.0) in
     record { values = ap (λ l. l.values) whole; offs = ap (λ l. l.offs) whole; rows = ap (λ l. l.kept) whole }

@@ -4,10 +4,10 @@ use Rattle.eigen.proofs.delimit.start_from.Goals as goal
 
 pub loop-first-preserved : goal.loop-first-preserved
 loop-first-preserved g c =
-    (sym (fall_goes _ _ c.loop-first-test.true (sym c.if-is-negligible.ensures.answer)) ∙ c.loop-first.invariant.0, omega arith)
+    (sym (fall_goes _ _ c.loop-first-test.true (sym c.if-is_negligible.ensures.answer)) ∙ c.loop-first.invariant.0, omega arith)
 
-pub returns-then-is-negligible : goal.returns-then-is-negligible
-returns-then-is-negligible g c = record {
-  scan = sym (fall_stops _ _ c.loop-first-test.true (sym c.if-is-negligible.ensures.answer)) ∙ c.loop-first.invariant.0;
+pub returns-then-is_negligible : goal.returns-then-is_negligible
+returns-then-is_negligible g c = record {
+  scan = sym (fall_stops _ _ c.loop-first-test.true (sym c.if-is_negligible.ensures.answer)) ∙ c.loop-first.invariant.0;
   below = omega arith;
 }
