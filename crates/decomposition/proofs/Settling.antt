@@ -20,15 +20,15 @@ use Rattle.decomposition.specs.Solutions.{Form, Solution, solved, failed, ended,
 use Rattle.decomposition.specs.Forms.{Fits}
 use Rattle.decomposition.proofs.HeldRows.{length_columns}
 
-width_fits : (n : ℕ) → 0 < n → n ≤ 512 → width_fits n ≡ true
-width_fits n some few = and_from (leb 1 n) (leb n 512) (le-leb 1 n (omega arith)) (le-leb n 512 few)
+width_allowed : (n : ℕ) → 0 < n → n ≤ 512 → width_fits n ≡ true
+width_allowed n some few = and_from (leb 1 n) (leb n 512) (le-leb 1 n (omega arith)) (le-leb n 512 few)
 
 pub no_rows_width_is : (n : ℕ) → 0 < n → n ≤ 512 → no_rows_width n ≡ n
-no_rows_width_is n some few = cond-true (width_fits n) n 0 (width_fits n some few)
+no_rows_width_is n some few = cond-true (width_fits n) n 0 (width_allowed n some few)
 
 all_rows_of_q_fit : (n l : ℕ) → 0 < n → n ≤ 512 → l ≡ n * n → all_rows_fit n n l ≡ true
 all_rows_of_q_fit n l some few e =
-    and_from (width_fits n && count_fits n) (eqb l (n * n)) (and_from (width_fits n) (count_fits n) (width_fits n some few) (le-leb n 512 few))
+    and_from (width_fits n && count_fits n) (eqb l (n * n)) (and_from (width_fits n) (count_fits n) (width_allowed n some few) (le-leb n 512 few))
     (eq-eqb l (n * n) e)
 
 module _ {C R : Type 0} (K : Kind C R) (f : Form C R) (tolerance : R) (limit : ℕ) where

@@ -12,6 +12,6 @@ pub loop-column-preserved : goal.loop-column-preserved
 loop-column-preserved g c =
     let rows = (g.K.Keeper.kept c.args.keeper.now).rows in
     let d = g.T.Arithmetic.ops.zero in
-    c.in-ok-push-column.ensures.cells
+    c.in_ok-push_column.ensures.cells
     ∙ ap (λ (l : List _). l ++ column_of d rows c.loop-column.column) c.loop-column.invariant
     ∙ sym (columns_more d rows c.loop-column.column)

@@ -8,7 +8,7 @@ loop-row-preserved g c =
     let h : c.loop-row.row < length rows = omega (arith, c.rows-row-end.ensures.count) in
     column_more g.T.Arithmetic.ops.zero rows c.loop-row.row c.args.column (vec_items c.args.cells.now)
     (vec_items c.loop-row.cells) (vec_items c.push.new.self) c.cell.result h c.cell.ensures.value
-    c.in-ok-push.ensures.items c.loop-row.invariant
+    c.in_ok-push.ensures.items c.loop-row.invariant
 
 pub returns : goal.returns
 returns g c =

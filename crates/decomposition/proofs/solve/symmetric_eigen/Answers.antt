@@ -6,11 +6,11 @@ use Rattle.decomposition.specs.Solutions.{Form, Solution, given_room, had_room, 
 use Rattle.decomposition.proofs.Whole.{solves, unformed, same_values}
 use Rattle.decomposition.proofs.solve.symmetric_eigen.Goals as goal
 
-pub returns-in-err-form : goal.returns-in-err-form
-returns-in-err-form g c =
+pub returns-in_err-form : goal.returns-in_err-form
+returns-in_err-form g c =
     let K = kind g.T.Arithmetic.ops g.T.Real.Arithmetic.ops g.T.Real.RealScalar.real in
-    let is = unformed K c.args.n (vec_items c.args.table) c.args.tolerance c.args.limit true c.in-err-form.field-0.0 c.in-err-form.ensures.form in
-    let p = err_from_is_err_and c.from-residual.result c.from-residual.ensures.1 in rw (p.1, p.2)
+    let is = unformed K c.args.n (vec_items c.args.table) c.args.tolerance c.args.limit true c.in_err-form.field-0.0 c.in_err-form.ensures.form in
+    let p = err_from_is_err_and c.from_residual.result c.from_residual.ensures.1 in rw (p.1, p.2)
     (record {
       solution = is;
       counts = tt;
@@ -20,17 +20,17 @@ returns-in-err-form g c =
 pub returns : goal.returns
 returns g c =
     let K = kind g.T.Arithmetic.ops g.T.Real.Arithmetic.ops g.T.Real.RealScalar.real in
-    let told = c.in-ok-form.ensures.form in
+    let told = c.in_ok-form.ensures.form in
     let is =
-    c.vectors-of.ensures.solution
-    ∙ ap (given_room (had_room c.vectors-of.result))
-    (solves K c.args.n (vec_items c.args.table) c.args.tolerance c.args.limit true (form_of c.in-ok-form.form)
+    c.vectors_of.ensures.solution
+    ∙ ap (given_room (had_room c.vectors_of.result))
+    (solves K c.args.n (vec_items c.args.table) c.args.tolerance c.args.limit true (form_of c.in_ok-form.form)
     told.0 told.1) in
     record {
       solution = is;
       counts =
-          subst (λ (k : ℕ). IfOk c.vectors-of.result (Counts k (k * k))) (ap (λ (f : Form _ _). f.side) told.1) c.vectors-of.ensures.counts;
+          subst (λ (k : ℕ). IfOk c.vectors_of.result (Counts k (k * k))) (ap (λ (f : Form _ _). f.side) told.1) c.vectors_of.ensures.counts;
       same_values =
           same_values K c.args.n (vec_items c.args.table) c.args.tolerance c.args.limit
-          (solution_of c.vectors-of.result) (had_room c.vectors-of.result) is;
+          (solution_of c.vectors_of.result) (had_room c.vectors_of.result) is;
     }

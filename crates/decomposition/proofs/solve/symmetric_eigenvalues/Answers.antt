@@ -6,11 +6,11 @@ use Rattle.decomposition.specs.Solutions.{Form, Solution, given_room, had_room, 
 use Rattle.decomposition.proofs.Whole.{solves, unformed, same_values}
 use Rattle.decomposition.proofs.solve.symmetric_eigenvalues.Goals as goal
 
-pub returns-in-err-form : goal.returns-in-err-form
-returns-in-err-form g c =
+pub returns-in_err-form : goal.returns-in_err-form
+returns-in_err-form g c =
     let K = kind g.T.Arithmetic.ops g.T.Real.Arithmetic.ops g.T.Real.RealScalar.real in
-    let is = unformed K c.args.n (vec_items c.args.table) c.args.tolerance c.args.limit false c.in-err-form.field-0.0 c.in-err-form.ensures.form in
-    let p = err_from_is_err_and c.from-residual.result c.from-residual.ensures.1 in rw (p.1, p.2)
+    let is = unformed K c.args.n (vec_items c.args.table) c.args.tolerance c.args.limit false c.in_err-form.field-0.0 c.in_err-form.ensures.form in
+    let p = err_from_is_err_and c.from_residual.result c.from_residual.ensures.1 in rw (p.1, p.2)
     (record {
       solution = is;
       counts = tt;
@@ -19,14 +19,14 @@ returns-in-err-form g c =
 pub returns : goal.returns
 returns g c =
     let K = kind g.T.Arithmetic.ops g.T.Real.Arithmetic.ops g.T.Real.RealScalar.real in
-    let told = c.in-ok-form.ensures.form in
+    let told = c.in_ok-form.ensures.form in
     let is =
-    c.values-of.ensures.solution
-    ∙ ap (given_room (had_room c.values-of.result))
-    (solves K c.args.n (vec_items c.args.table) c.args.tolerance c.args.limit false (form_of c.in-ok-form.form)
+    c.values_of.ensures.solution
+    ∙ ap (given_room (had_room c.values_of.result))
+    (solves K c.args.n (vec_items c.args.table) c.args.tolerance c.args.limit false (form_of c.in_ok-form.form)
     told.0 told.1) in
     record {
       solution = is;
       counts =
-          subst (λ (k : ℕ). IfOk c.values-of.result (Counts k 0)) (ap (λ (f : Form _ _). f.side) told.1) c.values-of.ensures.counts;
+          subst (λ (k : ℕ). IfOk c.values_of.result (Counts k 0)) (ap (λ (f : Form _ _). f.side) told.1) c.values_of.ensures.counts;
     }

@@ -18,17 +18,17 @@ returns g c =
     ∙ no_rows_width_is side c.requires.some c.requires.few in
     let same =
     same_run K f c.args.tolerance c.args.limit side c.new-keeper.result.width c.args.form.reduction.largest
-    c.deref-mut.result.now c.deref-mut-2.result.now refl refl c.deref-mut.ensures.value c.deref-mut-2.ensures.value wide in
-    let told = c.in-ok-passes.ensures.run in
-    let left = with_items_is c.args.form.values c.settled.new.values (c.settled.auto.values ∙ c.deref-mut.ensures.len) in
+    c.deref_mut.result.now c.deref_mut-2.result.now refl refl c.deref_mut.ensures.value c.deref_mut-2.ensures.value wide in
+    let told = c.in_ok-passes.ensures.run in
+    let left = with_items_is c.args.form.values c.settled.new.values (c.settled.auto.values ∙ c.deref_mut.ensures.len) in
     record {
       solution =
-          settles K f c.args.tolerance c.args.limit false c.in-ok-passes.passes c.largest-largest.result
+          settles K f c.args.tolerance c.args.limit false c.in_ok-passes.passes c.largest-largest.result
           (vec_items (with_items c.args.form.values c.settled.new.values)) (vec_items c.new.result)
           c.largest-largest.ensures.value (told.answer ∙ ap (λ (r : Run _). r.answer) same)
           (left ∙ told.values ∙ ap (λ (r : Run _). r.values) same) c.new.ensures.items;
       counts = record {
-        values = ap length left ∙ c.settled.auto.values ∙ ap length c.deref-mut.ensures.value ∙ c.requires.values;
+        values = ap length left ∙ c.settled.auto.values ∙ ap length c.deref_mut.ensures.value ∙ c.requires.values;
         vectors = ap length c.new.ensures.items;
       };
     }
