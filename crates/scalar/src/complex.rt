@@ -10,10 +10,8 @@ impl<R: RealScalar> Arithmetic for Complex<R> {
     ghost ops = { complex_ops R.Arithmetic.ops R.RealScalar.real };
 
     fn zero() -> Complex<R> {
-        Complex {
-            re: R::zero(),
-            im: R::zero(),
-        }
+        let zero = R::zero();
+        Complex { re: zero, im: zero }
     }
 
     fn is_zero(self) -> bool {
@@ -55,10 +53,8 @@ impl<R: RealScalar> Arithmetic for Complex<R> {
     }
 
     fn conjugate(self) -> Complex<R> {
-        Complex {
-            re: self.re,
-            im: self.im.neg(),
-        }
+        let Complex { re, im } = self;
+        Complex { re, im: im.neg() }
     }
 
     fn real(self) -> R {
@@ -81,10 +77,8 @@ impl<R: RealScalar> Arithmetic for Complex<R> {
     }
 
     fn from_real(x: R) -> Complex<R> {
-        Complex {
-            re: x,
-            im: R::zero(),
-        }
+        let im = R::zero();
+        Complex { re: x, im }
     }
 
     fn modulus(self) -> R {
