@@ -1,25 +1,30 @@
 #!/usr/bin/env bash
 # A reduction comes from `reduce` alone, cannot be copied, and is used up by settling. No contract can say that a
 # program does not compile, so this tries the programs: each offence must be refused with its own error, and its lawful
-# neighbour must compile. Only the compiler's front end runs: nothing is proved here.
+# neighbour must compile and run. `rt try` compiles a program before any proof: nothing is proved here.
 set -eu
 cd "$(dirname "$0")/.."
-kit=$(dirname "$(dirname "$(rt doc)")")
 work=$(mktemp -d)
 trap 'rm -rf "$work"' EXIT
 
+# A repository of its own, with the crates that the programs stand on and a program `trial`.
+mkdir -p "$work/crates/trial/src"
+for lib in fault root scalar rows tridiagonal eigen; do
+    mkdir "$work/crates/$lib"
+    cp -r "crates/$lib/src" "$work/crates/$lib/src"
+    if [ -d "crates/$lib/specs" ]; then cp -r "crates/$lib/specs" "$work/crates/$lib/specs"; fi
+    grep "^$lib:" crates.txt >>"$work/crates.txt"
+done
+echo 'trial: eigen rows tridiagonal' >>"$work/crates.txt"
+
 # A program whose body has a reduction of a table of side 1, and what it says of the program.
 compile() {
-    cat >"$work/main.rt" <<PROGRAM
+    cat >"$work/crates/trial/src/main.rt" <<PROGRAM
+#![tactic(auto)]
+
 use eigen::settle;
 use rows::NoRows;
-use rows::NoRowsKeeper;
-use scalar::F64Arithmetic;
-use scalar::F64RealScalar;
-use scalar::F64Scalar;
-use tridiagonal::Reduction;
-use tridiagonal::assemble;
-use tridiagonal::reduce;
+use tridiagonal::{Reduction, assemble, reduce};
 
 fn side_of(reduction: &Reduction<f64>) -> usize {
     reduction.side()
@@ -38,14 +43,7 @@ $1
     }
 }
 PROGRAM
-    set -- "$work/main.rt" --crate-name trial
-    while IFS=: read -r lib used; do
-        set -- "$@" --lib "$lib:$(echo $used | tr ' ' ,)=$kit/$lib/src/lib.rt"
-    done <"$kit/libs.txt"
-    for lib in fault root scalar rows tridiagonal eigen; do
-        set -- "$@" --lib "$lib=crates/$lib/src/lib.rt"
-    done
-    "$kit/bin/rattle-print-mir" "$@" 2>"$work/errors" >"$work/mir"
+    (cd "$work/crates/trial" && rt try) >"$work/said" 2>&1
 }
 
 refuses() {
@@ -53,9 +51,9 @@ refuses() {
         echo "compile time: $1 compiles, and must not" >&2
         exit 1
     fi
-    if ! grep -q "error\[$2\]" "$work/errors" || grep 'error\[' "$work/errors" | grep -qv "error\[$2\]"; then
+    if ! grep -q "error\[$2\]" "$work/said" || grep 'error\[' "$work/said" | grep -qv "error\[$2\]"; then
         echo "compile time: $1 is refused otherwise than by $2:" >&2
-        cat "$work/errors" >&2
+        cat "$work/said" >&2
         exit 1
     fi
     echo "compile time: $1 is refused by $2"
@@ -64,7 +62,7 @@ refuses() {
 accepts() {
     if ! compile "$2"; then
         echo "compile time: $1 does not compile, and must:" >&2
-        cat "$work/errors" >&2
+        cat "$work/said" >&2
         exit 1
     fi
     echo "compile time: $1 compiles"

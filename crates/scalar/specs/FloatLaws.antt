@@ -1,7 +1,7 @@
 -- Laws of the floats that are finite and not negative, once for both formats: the larger of two is commutative, associative and
 -- idempotent, and zero is its unit. Assumes nothing.
 -- Such a value is a whole number of the format's smallest values, its `rank`, and it is the only one with that rank, since its bits are
--- made of the rank alone. The order is that of the ranks, so `most` is `max` of ranks, and each law is one of `max`.
+-- made of the rank alone. The order is that of the ranks, so `float_max` is `max` of ranks, and each law is one of `max`.
 use Rattle.std.specs.Prelude.{◌≡◌, ℕ, zero, suc, ◌+◌, ◌-◌, ◌*◌, ◌/◌, ◌%◌, ◌^◌, ◌<◌, ◌≤◌, max, Bool, true, false, cond, not, ◌&&◌, ◌||◌, T, ltb, ℤ, pos, negsuc, ◌==◌, nat_le, nat_lt, refl, Float}
 use Rattle.std.proofs.Common.{sym, ap, ◌∙◌, subst, le_trans, le_of_eq, le_of_lt, le_of_suc-le-suc, lt_of_not-le, lt_of_lt_of_le, lt_irrefl, one-mul, mul-one, mul_assoc, mul_right_comm, mul-le-mul_right, mul-div_cancel, arith, ltb→lt, leb→le, eqb→eq, pow-add, pow_pos}
 use Rattle.std.proofs.Math.Nat.{max_comm, max-zero, max-eq_left, max-eq_right}
@@ -123,7 +123,7 @@ no_nan : (f : Format) (x : Float) → T (is_size f x) → T (not (is_nan x))
 unfolding is_nan
 no_nan f = size_elim f (λ (x : Float). T (not (is_nan x))) (λ m e t. tt)
 
--- ---- `most`, by ranks
+-- ---- `float_max`, by ranks
 
 pub most_size : (f : Format) (x y : Float) → T (is_size f x) → T (is_size f y) → T (is_size f (float_max x y))
 most_size f x y p q = go (le y x || is_nan y)

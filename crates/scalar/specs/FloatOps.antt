@@ -51,7 +51,7 @@ float_ops f = record {
   sign = float_signum;
 }
 
--- `most` is the larger of two, and the other one where one is a NaN
+-- `float_max` is the larger of two, and the other one where one is a NaN
 abbrev pub float_real : Format → RealOps Float
 float_real f = record {
   div = div f;
