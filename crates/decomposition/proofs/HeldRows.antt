@@ -1,5 +1,5 @@
 -- What a keeper's rows hold, read cell by cell and column by column.
-use Rattle.std.proofs.Common.{◌≡◌, ℕ, zero, suc, ◌+◌, ◌*◌, ◌<◌, ◌≤◌, List, [], ◌∷◌, ◌++◌, map, length, get_or, take, sym, refl, ap, ◌∙◌, append_assoc, suc-mul, zero-mul, add-one, arith}
+use Rattle.std.proofs.Common.{◌≡◌, ℕ, zero, suc, ◌+◌, ◌*◌, ◌<◌, ◌≤◌, List, [], ◌∷◌, ◌++◌, length, get_or, take, sym, refl, ap, ◌∙◌, append_assoc, suc-mul, zero-mul, add-one}
 use Rattle.std.proofs.lemmas.List.{length-append, length-map, map_more, take_all}
 use Rattle.fault.specs.Refusals.{Refusal}
 use Rattle.rows.specs.Keepers.{Answer, given, denied, read_at, cell_at}

@@ -1,10 +1,10 @@
 -- What is known of a table that is reduced in buffers made for its side.
-use Rattle.std.proofs.Common.{◌≡◌, ℕ, ◌-◌, ◌*◌, ◌<◌, ◌≤◌, Bool, true, false, eqb, ltb, ◌⊎◌, List, [], length, Some, None, Option, sym, refl, ap, ◌∙◌, ⊎_elim, arith}
+use Rattle.std.proofs.Common.{◌≡◌, ℕ, ◌-◌, ◌*◌, ◌<◌, ◌≤◌, true, false, eqb, ltb, ◌⊎◌, List, [], length, Some, None, Option, sym, refl, ap, ◌∙◌, ⊎_elim, arith}
 use Rattle.std.proofs.lemmas.Bool.{or_left, or_right, eq-eqb, lt-ltb, eqb-true, and_parts, cases_Bool}
 use Rattle.fault.specs.Refusals.{Refusal, refused}
-use Rattle.tridiagonal.specs.Checks.{side_refused, lengths_agree, entry_refusal, reduce_refusal, refusal_for}
+use Rattle.tridiagonal.specs.Checks.{side_refused, lengths_agree, reduce_refusal, refusal_for}
 use Rattle.tridiagonal.specs.Householder.{Kind}
-use Rattle.tridiagonal.specs.Outcome.{Outcome, Reduced, Refused, reduce_outcome, unless_refused}
+use Rattle.tridiagonal.specs.Outcome.{Reduced, reduce_outcome, unless_refused}
 use Rattle.tridiagonal.specs.Reduce.{largest_size, reduced_table, values_of, offs_of, signs_of}
 use Rattle.decomposition.specs.Solutions.{Form, table_refusal, reduced_form}
 use Rattle.decomposition.specs.Forms.{Fits}

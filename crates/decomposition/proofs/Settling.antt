@@ -1,22 +1,21 @@
 -- From the run of a settling to the solution.
-use Rattle.std.proofs.Common.{◌≡◌, ℕ, ◌-◌, ◌*◌, ◌<◌, ◌≤◌, Bool, true, false, cond, ◌&&◌, eqb, leb, List, [], map, length, None, Option, sym, refl, ap, ◌∙◌, arith}
+use Rattle.std.proofs.Common.{◌≡◌, ℕ, ◌*◌, ◌<◌, ◌≤◌, Bool, true, cond, ◌&&◌, eqb, leb, List, [], map, length, None, Option, sym, ap, ◌∙◌, arith}
 use Rattle.std.proofs.lemmas.Bool.{and_from, le-leb, eq-eqb, cond-true}
 use Rattle.std.proofs.lemmas.List.FromFn.{length-map-range_with_len}
 use Rattle.std.proofs.lemmas.List.{length-map}
 use Rattle.fault.specs.Refusals.{Refusal}
-use Rattle.rows.specs.Keepers.{Kept, Answer, given, denied}
+use Rattle.rows.specs.Keepers.{Kept, given, denied}
 use Rattle.rows.specs.Makes.{width_fits, count_fits, no_rows_width, all_rows_fit, all_rows, row_of, rows_of}
 use Rattle.rows.specs.Turns.{turned_all}
 use Rattle.rows.proofs.Held.{all_rows_held}
 use Rattle.tridiagonal.specs.Assemble.{assemble_refusal, matrix_q}
-use Rattle.tridiagonal.specs.Householder.{Kind, kind}
+use Rattle.tridiagonal.specs.Householder.{Kind}
 use Rattle.tridiagonal.specs.Outcome.{unless_refused}
 use Rattle.tridiagonal.specs.Tables.{lower}
-use Rattle.eigen.specs.Laws.{IsRun, start_of, finish_of}
 use Rattle.eigen.specs.Runs.{Run}
-use Rattle.eigen.specs.Settles.{Task, settle_of}
+use Rattle.eigen.specs.Settles.{settle_of}
 use Rattle.eigen.specs.Turnings.{kept_all}
-use Rattle.decomposition.specs.Solutions.{Form, Solution, solved, failed, ended, settled_form, task_of, vectors_of, rows_of_q, by_columns}
+use Rattle.decomposition.specs.Solutions.{Form, solved, failed, ended, settled_form, task_of, vectors_of, rows_of_q, by_columns}
 use Rattle.decomposition.specs.Forms.{Fits}
 use Rattle.decomposition.proofs.HeldRows.{length_columns}
 

@@ -1,5 +1,5 @@
 -- A whole solution, from its form.
-use Rattle.std.proofs.Common.{◌≡◌, ℕ, Bool, true, false, List, Some, None, Ok, Err, Option, Result, sym, refl, ap, ◌∙◌, subst}
+use Rattle.std.proofs.Common.{◌≡◌, ℕ, Bool, true, false, List, Some, None, Err, Option, sym, refl, ap, ◌∙◌, subst}
 use Rattle.fault.specs.Refusals.{Refusal, refusal}
 use Rattle.rows.specs.Keepers.{Answer, given, denied}
 use Rattle.tridiagonal.specs.Householder.{Kind}
@@ -7,10 +7,8 @@ use Rattle.eigen.specs.Runs.{Run}
 use Rattle.eigen.specs.Settles.{settle_of}
 use Rattle.decomposition.specs.declared.failure.Failure.{Failure}
 use Rattle.decomposition.specs.declared.failure.Failure.TheVariants.{Solver, Memory}
-use Rattle.decomposition.specs.declared.form.Form.{Form as Held}
-use Rattle.decomposition.specs.declared.solved.Solved.{Solved}
-use Rattle.decomposition.specs.Solutions.{Form, Solution, solved, failed, starved, ended, settled_form, unless_failed, task_of, table_refusal, reduced_form, solution, solution_of, had_room, given_room, SameButVectors}
-use Rattle.decomposition.specs.Forms.{Reduces, form_of}
+use Rattle.decomposition.specs.Solutions.{Form, Solution, failed, ended, settled_form, unless_failed, task_of, table_refusal, reduced_form, solution, solution_of, had_room, given_room, SameButVectors}
+use Rattle.decomposition.specs.Forms.{Reduces}
 
 module _ {C R : Type 0} (K : Kind C R) (n : ℕ) (t : List C) (tolerance : R) (limit : ℕ) where
   pub solves : (asked : Bool) (f : Form C R) → table_refusal K n t ≡ None → f ≡ reduced_form K n t →

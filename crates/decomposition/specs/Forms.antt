@@ -1,5 +1,5 @@
 -- What the steps of a decomposition hand on. Definitions only.
-use Rattle.std.specs.Prelude.{◌≡◌, ℕ, ◌+◌, ◌-◌, ◌*◌, ◌<◌, ◌≤◌, List, length, Some, None, Ok, Err, vec_items, Result}
+use Rattle.std.specs.Prelude.{◌≡◌, ℕ, ◌-◌, ◌*◌, ◌<◌, ◌≤◌, List, length, Some, None, Ok, Err, vec_items, Result}
 use Rattle.fault.specs.Refusals.{refusal}
 use Rattle.tridiagonal.specs.Householder.{Kind}
 use Rattle.decomposition.specs.declared.failure.Failure.{Failure}

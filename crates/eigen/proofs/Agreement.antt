@@ -1,5 +1,5 @@
 -- The laws of whole runs, shown of the definition.
-use Rattle.std.proofs.Common.{◌≡◌, ℕ, zero, suc, ◌+◌, ◌-◌, ◌<◌, ◌≤◌, Bool, true, false, cond, ◌&&◌, eqb, leb, List, [], map, length, get_or, sym, refl, ap, ◌∙◌, arith}
+use Rattle.std.proofs.Common.{◌≡◌, ℕ, ◌+◌, ◌-◌, ◌<◌, ◌≤◌, Bool, true, false, cond, ◌&&◌, eqb, leb, List, [], length, get_or, sym, refl, ap, ◌∙◌, arith}
 use Rattle.std.proofs.lemmas.List.{get_or-map}
 use Rattle.std.proofs.lemmas.Bool.{leb-true, le-leb, and_parts, and_from}
 use Rattle.fault.specs.Refusals.{Refusal, refused}
@@ -7,8 +7,8 @@ use Rattle.scalar.specs.Ops.{Ops, RealOps}
 use Rattle.rows.specs.Turns.{Turn, turned_all}
 use Rattle.rows.specs.Keepers.{Kept, Answer, given, denied}
 use Rattle.eigen.specs.Turnings.{kept_all}
-use Rattle.eigen.specs.Iterate.{Ran, settled, not_settled, iterate}
-use Rattle.eigen.specs.Runs.{Run, Standing, searched, pass_of, run_by, run_of}
+use Rattle.eigen.specs.Iterate.{settled, not_settled, iterate}
+use Rattle.eigen.specs.Runs.{Run, searched, pass_of, run_by, run_of}
 use Rattle.eigen.specs.Settles.{Task, allowed, unlawful, check_of, check_task, settle_by, settle_of}
 use Rattle.eigen.specs.Laws.{Start, Finish, finish_of, task_of, IsRun, AlikeButKeeper, Alike, Agree, Same}
 use Rattle.eigen.proofs.Limits.{any_limit, counted}

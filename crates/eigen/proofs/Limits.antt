@@ -1,7 +1,6 @@
 -- The law of limits, for any pass.
-use Rattle.std.proofs.Common.{◌≡◌, ℕ, zero, suc, ◌+◌, ◌<◌, ◌≤◌, List, [], sym, refl, ap, ◌∙◌, arith}
-use Rattle.rows.specs.Keepers.{Answer, given, denied}
-use Rattle.eigen.specs.Iterate.{Step, single, broken, passed, Ran, ran_of, onward, made_before, settled, not_settled, iterate}
+use Rattle.std.proofs.Common.{◌≡◌, ℕ, zero, suc, ◌+◌, ◌<◌, ◌≤◌, sym, refl, ap, ◌∙◌, arith}
+use Rattle.eigen.specs.Iterate.{Step, single, broken, passed, onward, made_before, settled, not_settled, iterate}
 
 module _ {S L : Type 0} (step : S → Step S L) where
   -- a run is settled with no fewer passes than it has counted, and with fewer than its limit

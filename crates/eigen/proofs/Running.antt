@@ -1,5 +1,5 @@
 -- A run pass by pass: what is left gives the whole.
-use Rattle.std.proofs.Common.{◌≡◌, ℕ, zero, suc, ◌+◌, ◌-◌, ◌<◌, ◌≤◌, Bool, true, false, cond, eqb, ltb, List, [], ◌∷◌, ◌++◌, map, Some, None, Option, sym, refl, ap, ◌∙◌, arith}
+use Rattle.std.proofs.Common.{◌≡◌, ℕ, suc, ◌+◌, ◌-◌, ◌<◌, ◌≤◌, Bool, true, false, cond, ltb, List, Some, None, Option, sym, refl, ap, ◌∙◌, arith}
 use Rattle.std.proofs.lemmas.Bool.{eq-eqb, ne_eqb}
 use Rattle.scalar.specs.Ops.{Ops, RealOps}
 use Rattle.rows.specs.Turns.{Turn}
@@ -11,7 +11,7 @@ use Rattle.eigen.specs.Passes.{pass_left, pass_end, pair_at, pair_put, pair_exis
 use Rattle.eigen.specs.Chases.{chased}
 use Rattle.eigen.specs.Blocks.{block_from, offs_from, within}
 use Rattle.eigen.specs.Iterate.{Step, single, broken, passed, Ran, ran_of, onward, settled, not_settled, no_pair, iterate}
-use Rattle.eigen.specs.Runs.{Standing, standing_of, searched, passed_to, pass_of, values_at, run_by, run_of}
+use Rattle.eigen.specs.Runs.{Standing, standing_of, searched, passed_to, pass_of, values_at, run_of}
 use Rattle.eigen.proofs.Turned.{turn_none, kept_then}
 
 module _ {S L : Type 0} (step : S → Step S L) (limit count : ℕ) (s : S) where

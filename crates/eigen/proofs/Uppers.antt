@@ -1,10 +1,10 @@
 -- What stands above the diagonal has no say in a run. Assumes nothing.
-use Rattle.std.proofs.Common.{◌≡◌, ℕ, List, sym, refl, ap, ◌∙◌, subst}
+use Rattle.std.proofs.Common.{◌≡◌, ℕ, List, sym, refl, ◌∙◌, subst}
 use Rattle.scalar.specs.Ops.{Ops, RealOps}
 use Rattle.tridiagonal.specs.Householder.{kind}
-use Rattle.tridiagonal.specs.Runs.{Run as Reducing, ReduceRun, AlikeBelow, SameForm}
+use Rattle.tridiagonal.specs.Runs.{Run as Reducing, SameForm}
 use Rattle.tridiagonal.proofs.Law.{only_lower}
-use Rattle.eigen.specs.Laws.{Start, Finish, IsRun, AlikeButKeeper, Takes, Agree, AnyUpper}
+use Rattle.eigen.specs.Laws.{Start, Finish, IsRun, AlikeButKeeper, Takes, AnyUpper}
 use Rattle.eigen.proofs.Agreement.{any_keeper}
 use Rattle.rows.specs.Keepers.{Kept, Answer, given, denied}
 use Rattle.eigen.specs.Laws.{start_of, finish_of}

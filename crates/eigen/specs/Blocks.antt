@@ -1,5 +1,5 @@
 -- The search for the block of a tridiagonal form that a pass works on. Definitions only.
-use Rattle.std.specs.Prelude.{ℕ, zero, suc, ◌+◌, ◌-◌, Bool, true, false, cond, ◌||◌, List, [], ◌∷◌, set, slice_index_or, slice_set}
+use Rattle.std.specs.Prelude.{ℕ, zero, suc, ◌+◌, Bool, cond, ◌||◌, List, slice_index_or, slice_set}
 use Rattle.scalar.specs.Ops.{Ops, RealOps}
 use Rattle.eigen.specs.declared.delimit.Block.{Block}
 

@@ -1,7 +1,7 @@
 -- The chase of a block: rotation after rotation, each a back turn of two neighbouring columns. Definitions only.
-use Rattle.std.specs.Prelude.{ℕ, zero, suc, ◌+◌, ◌-◌, Bool, true, false, cond, List, [], ◌∷◌, Some, None, Option, nat_lt, slice_set}
+use Rattle.std.specs.Prelude.{ℕ, zero, suc, ◌+◌, ◌-◌, cond, List, Some, None, Option, nat_lt, slice_set}
 use Rattle.scalar.specs.Ops.{Ops, RealOps}
-use Rattle.rows.specs.Turns.{Turn, turn_of}
+use Rattle.rows.specs.Turns.{turn_of}
 use Rattle.rows.specs.declared.direction.Direction.TheVariants.{Back}
 use Rattle.eigen.specs.declared.givens.Rotation.{Rotation}
 use Rattle.eigen.specs.declared.givens.Normed.{Normed}

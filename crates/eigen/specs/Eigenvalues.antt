@@ -1,5 +1,5 @@
 -- The eigenvalues of a symmetric 2×2 block in closed form, and the shift taken from one. Definitions only.
-use Rattle.std.specs.Prelude.{Bool, true, false, cond, Some, None, Option}
+use Rattle.std.specs.Prelude.{cond, Some, None, Option}
 use Rattle.scalar.specs.Ops.{Ops, RealOps}
 use Rattle.eigen.specs.declared.eigenvalues.Vector2.{Vector2}
 

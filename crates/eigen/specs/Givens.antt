@@ -1,5 +1,5 @@
 -- Givens rotations of a pair of real numbers. Definitions only.
-use Rattle.std.specs.Prelude.{Bool, true, false, cond, Some, None, Option}
+use Rattle.std.specs.Prelude.{cond, Some, None, Option}
 use Rattle.scalar.specs.Ops.{Ops, RealOps}
 use Rattle.eigen.specs.declared.givens.Rotation.{Rotation}
 use Rattle.eigen.specs.declared.givens.Normed.{Normed}

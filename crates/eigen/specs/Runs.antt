@@ -1,5 +1,5 @@
 -- A run over values and off-diagonal entries alone: its answer, what it leaves, and the turns it makes. Definitions only.
-use Rattle.std.specs.Prelude.{ℕ, zero, suc, ◌+◌, ◌-◌, Bool, true, false, cond, List, [], ◌∷◌, map, Some, None, Option, ◌==◌}
+use Rattle.std.specs.Prelude.{ℕ, ◌-◌, cond, List, map, Some, None, Option, ◌==◌}
 use Rattle.scalar.specs.Ops.{Ops, RealOps}
 use Rattle.rows.specs.Turns.{Turn}
 use Rattle.rows.specs.Keepers.{Answer, given, denied}

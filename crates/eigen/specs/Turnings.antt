@@ -1,5 +1,5 @@
 -- What a part of a run leaves: values and off-diagonal entries, and the turns that every row is given. Definitions only.
-use Rattle.std.specs.Prelude.{List, [], ◌∷◌, ◌++◌, map}
+use Rattle.std.specs.Prelude.{List, [], ◌∷◌, map}
 use Rattle.scalar.specs.Ops.{Ops}
 use Rattle.rows.specs.Turns.{Turn, turned_all}
 use Rattle.rows.specs.Keepers.{Kept}

@@ -8,7 +8,7 @@ use Rattle.std.proofs.lemmas.Bool.{and_parts}
 use Rattle.scalar.specs.Ops.{Ops, RealOps, LargerLaws, SizeLaws}
 use Rattle.job.specs.Gathered.{Gathered, HasSize, Sized, conjugated, largest_of, largest_size}
 use Rattle.job.specs.Typed.{Typed, Outcome, blank, entries, entry_of, is_limit, is_lower, is_tolerance, is_typed, limiting}
-use Rattle.job.specs.Typed.{place, placed, putting, tolerating, written}
+use Rattle.job.specs.Typed.{place, putting, tolerating, written}
 use Rattle.job.proofs.Folds.{largest_pair, largest_zeros, zeros_sized}
 use Rattle.job.proofs.Mirrors.{placed_entries, placed_mirrored, placed_whole, above_inside, at_inside, above_free}
 

@@ -1,5 +1,5 @@
 -- Where two entries of a table stand: at one place only if they are one.
-use Rattle.std.proofs.Common.{◌≡◌, ℕ, ◌+◌, ◌*◌, ◌/◌, ◌%◌, ◌<◌, sym, ap, ◌∙◌, add_comm, arith}
+use Rattle.std.proofs.Common.{◌≡◌, ℕ, ◌*◌, ◌/◌, ◌%◌, ◌<◌, sym, ap, ◌∙◌, add_comm}
 use lib.Arith.{digits_div, digits_mod, digits_lt}
 use Rattle.job.specs.Typed.{place}
 

@@ -1,6 +1,6 @@
 -- The meaning of complex numbers over a real kind: the product is (ac - bd, ad + bc), the rest goes by parts.
 -- Definitions only.
-use Rattle.std.specs.Prelude.{Bool, cond, ◌&&◌}
+use Rattle.std.specs.Prelude.{cond, ◌&&◌}
 use Rattle.scalar.specs.Ops.{Ops, RealOps}
 use Rattle.scalar.specs.declared.point.Complex.{Complex}
 

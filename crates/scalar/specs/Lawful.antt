@@ -9,7 +9,6 @@ use Rattle.scalar.specs.FloatLaws.{is_size, most_size, most_comm, most_assoc, mo
 use Rattle.scalar.specs.FloatLaws.{zero_bits, zero_size, abs_neg, add_size, add_zero_zero}
 use Rattle.scalar.specs.FloatOps.{zero_of, float_ops, float_real}
 use Rattle.scalar.specs.ComplexOps.{complex_ops}
-use Rattle.scalar.specs.declared.point.Complex.{Complex}
 
 size_finite : (f : Format) (x : Float) → T (is_size f x) → T (float_is_finite x)
 size_finite f x t = and_l (float_is_finite x) (not (is_sign_negative x)) (and_r _ (float_is_finite x && not (is_sign_negative x)) t)

@@ -1,7 +1,7 @@
 -- What is known of a reduction that is not refused.
-use Rattle.std.proofs.Common.{◌≡◌, ℕ, ◌-◌, ◌*◌, ◌<◌, ◌≤◌, Bool, true, false, cond, ◌&&◌, ◌||◌, eqb, ltb, List, [], length, Some, None, Option, sym, refl, ap, ◌∙◌, ⊎_elim, arith}
+use Rattle.std.proofs.Common.{◌≡◌, ℕ, ◌-◌, ◌*◌, ◌<◌, ◌≤◌, true, false, eqb, ltb, List, [], length, Some, None, sym, ◌∙◌, ⊎_elim, arith}
 use Rattle.std.proofs.lemmas.Bool.{or_parts, and_parts, eqb-false, eqb-true, ltb-false, cases_Bool}
-use Rattle.fault.specs.Refusals.{Refusal, refused}
+use Rattle.fault.specs.Refusals.{refused}
 use Rattle.tridiagonal.specs.Checks.{side_refused, lengths_agree, entry_refusal, reduce_refusal}
 use Rattle.tridiagonal.specs.Householder.{Kind}
 

@@ -1,5 +1,5 @@
 -- The axis of a reflection, by its steps.
-use Rattle.std.proofs.Common.{◌≡◌, Bool, true, false, cond, not, List, get_or, set, sym, refl, ap, ◌∙◌}
+use Rattle.std.proofs.Common.{◌≡◌, Bool, true, false, not, List, get_or, set}
 use Rattle.tridiagonal.specs.Blas.{norm_squared_of, norm_of, unscaled, normalised}
 use Rattle.tridiagonal.specs.Householder.{Kind, signed_norm, axis_factor, axis_reflects, axis_norm, first_moved, axis_of}
 

@@ -1,5 +1,5 @@
 -- Only the lower columns and the largest size decide what a reduction leaves.
-use Rattle.std.proofs.Common.{◌≡◌, ℕ, zero, suc, ◌+◌, ◌-◌, ◌*◌, ◌<◌, ◌≤◌, List, [], ◌∷◌, length, get_or, take, drop, Some, None, Option, sym, refl, ap, ◌∙◌, suc-mul, zero-mul, arith, length-drop, length-take-le, get_or-drop, get_or-take, drop-drop}
+use Rattle.std.proofs.Common.{◌≡◌, ℕ, zero, suc, ◌+◌, ◌-◌, ◌*◌, ◌<◌, ◌≤◌, List, ◌∷◌, length, get_or, take, drop, Some, None, Option, sym, refl, ap, ◌∙◌, suc-mul, zero-mul, arith, length-drop, length-take-le, get_or-drop, get_or-take, drop-drop}
 use Rattle.std.proofs.lemmas.List.{same_lists}
 use Rattle.fault.specs.Refusals.{Refusal}
 use Rattle.tridiagonal.specs.Assemble.{matrix_q}
@@ -7,7 +7,7 @@ use Rattle.tridiagonal.specs.Checks.{refusal_for}
 use Rattle.tridiagonal.specs.Householder.{Kind}
 use Rattle.tridiagonal.specs.Outcome.{Outcome, Reduced, Refused, reduce_outcome, unless_refused}
 use Rattle.tridiagonal.specs.Reduce.{largest_size, divided, reduced_lower, reduced_signs, reduced_offs, reduced_values, reduced_table, values_of, offs_of, signs_of}
-use Rattle.tridiagonal.specs.Runs.{Buffers, Run, ReduceRun, AlikeBelow, SameForm, OnlyLower}
+use Rattle.tridiagonal.specs.Runs.{Buffers, ReduceRun, AlikeBelow, OnlyLower}
 use Rattle.tridiagonal.specs.Tables.{lower, put}
 use Rattle.tridiagonal.specs.Tridiagonal.{reduced_columns}
 use Rattle.tridiagonal.proofs.Accepted.{accepted}

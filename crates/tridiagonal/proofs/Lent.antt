@@ -1,5 +1,5 @@
 -- What a column holds after its first entry, or a part of it lent from its middle, was written.
-use Rattle.std.proofs.Common.{◌≡◌, ℕ, ◌+◌, ◌-◌, ◌<◌, ◌≤◌, List, [], ◌∷◌, ◌++◌, length, get_or, take, drop, set, sym, refl, ap, ◌∙◌, append_assoc, arith, length-drop, length-set, drop-set-lt}
+use Rattle.std.proofs.Common.{◌≡◌, ℕ, ◌+◌, ◌-◌, ◌<◌, ◌≤◌, List, [], ◌∷◌, ◌++◌, length, take, drop, set, ap, ◌∙◌, arith, length-drop, drop-set-lt}
 use lib.Seq.{set_split}
 use borrow.Rule.Slice.PartMut.{put_mid, same_len_mid, take_put}
 use Rattle.std.proofs.lemmas.List.{append-nil, drop_all, take_rest, take_more_set}

@@ -1,10 +1,10 @@
 -- A step keeps the lengths of the lower columns.
-use Rattle.std.proofs.Common.{◌≡◌, ℕ, zero, suc, ◌+◌, ◌-◌, ◌*◌, ◌<◌, ◌≤◌, Bool, true, false, cond, List, [], ◌∷◌, ◌++◌, length, get_or, take, drop, set, sym, refl, ap, ◌∙◌, arith, length-append, length-drop, length-set, length-take}
+use Rattle.std.proofs.Common.{◌≡◌, ℕ, zero, suc, true, false, cond, List, [], ◌∷◌, length, get_or, take, drop, sym, refl, ap, ◌∙◌, arith, length-append, length-drop, length-set, length-take}
 use lib.ListN.{length-map}
 use Rattle.scalar.specs.Ops.{Ops}
-use Rattle.tridiagonal.specs.Blas.{dotc_of, axc_of, axpy_of, unscaled, norm_of, normalised}
+use Rattle.tridiagonal.specs.Blas.{dotc_of, unscaled, norm_of, normalised}
 use Rattle.tridiagonal.specs.Householder.{Kind, axis_of, axis_reflects, axis_factor, first_moved, signed_norm}
-use Rattle.tridiagonal.specs.Hermitian.{below_sum, row_sum, first_column, hegemv_from, hegemv_of, hegerc_of}
+use Rattle.tridiagonal.specs.Hermitian.{below_sum, first_column, hegemv_from, hegemv_of, hegerc_of}
 use Rattle.tridiagonal.specs.Tridiagonal.{two, minus_one, updated, double_product, stepped_column, stepped_rest, reduced_columns}
 use Rattle.tridiagonal.proofs.Columns.{Shaped}
 use Rattle.tridiagonal.proofs.Products.{length_axpy, shaped_hegerc}

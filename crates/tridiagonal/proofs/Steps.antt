@@ -1,15 +1,15 @@
 -- One step of the reduction, on a table that begins at the step's column.
-use Rattle.std.proofs.Common.{◌≡◌, ℕ, zero, suc, ◌+◌, ◌-◌, ◌*◌, ◌<◌, ◌≤◌, Bool, true, false, cond, List, [], ◌∷◌, ◌++◌, length, take, drop, sym, refl, ap, ◌∙◌, ⊎_elim, append_assoc, suc-mul, add-one, arith, length-append, length-drop, take-append-drop, length-take-le, take-take, drop-drop, take_at, take-add, drop_at}
+use Rattle.std.proofs.Common.{◌≡◌, ℕ, zero, suc, ◌+◌, ◌-◌, ◌*◌, ◌<◌, ◌≤◌, Bool, true, false, cond, List, ◌∷◌, ◌++◌, length, take, drop, sym, ap, ◌∙◌, ⊎_elim, append_assoc, add-one, arith, take-append-drop, take-take, drop-drop, take-add}
 use borrow.Rule.Slice.PartMut.{put_mid}
 use Rattle.std.proofs.lemmas.List.{drop-take, take_rest}
 use Rattle.std.proofs.lemmas.Slice.{take-put_mid, drop-put_mid, between-put_mid}
 use Rattle.std.proofs.lemmas.Bool.{cases_Bool, cond-true, cond-false}
 use Rattle.tridiagonal.specs.Blas.{dotc_of}
-use Rattle.tridiagonal.specs.Householder.{Kind, axis_of, axis_norm, axis_reflects}
+use Rattle.tridiagonal.specs.Householder.{Kind, axis_of, axis_reflects}
 use Rattle.tridiagonal.specs.Hermitian.{hegemv_of, hegerc_of}
 use Rattle.tridiagonal.specs.Tables.{lower, put}
 use Rattle.tridiagonal.specs.Tridiagonal.{two, minus_one, updated, stepped_column, stepped_rest}
-use Rattle.tridiagonal.proofs.Columns.{Shaped, shaped_lower, lower_cons, lower_none, put_cons, put_none, put_put}
+use Rattle.tridiagonal.proofs.Columns.{shaped_lower, lower_cons, put_cons, put_none, put_put}
 use Rattle.tridiagonal.proofs.Lent.{end_written}
 use Rattle.tridiagonal.proofs.Products.{shaped_hegerc}
 

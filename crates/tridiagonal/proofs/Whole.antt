@@ -1,5 +1,5 @@
 -- The whole reduction: the table divided, reduced and read off.
-use Rattle.std.proofs.Common.{◌≡◌, ℕ, zero, suc, ◌+◌, ◌-◌, ◌*◌, ◌<◌, ◌≤◌, Bool, true, false, cond, List, [], ◌∷◌, map, length, take, drop, sym, refl, ap, ◌∙◌, arith}
+use Rattle.std.proofs.Common.{◌≡◌, ℕ, zero, suc, ◌+◌, ◌-◌, ◌*◌, ◌≤◌, true, false, cond, List, ◌∷◌, map, length, take, drop, sym, refl, ap, ◌∙◌, arith}
 use lib.ListN.{length-map}
 use Rattle.std.proofs.lemmas.List.{take-map, drop-map, map-id}
 use Rattle.tridiagonal.specs.Blas.{unscaled}
@@ -7,7 +7,7 @@ use Rattle.tridiagonal.specs.Householder.{Kind}
 use Rattle.tridiagonal.specs.Reduce.{largest_size, divided, reduced_lower, reduced_signs, reduced_offs, reduced_values, reduced_table}
 use Rattle.tridiagonal.specs.Tables.{lower, put}
 use Rattle.tridiagonal.specs.Tridiagonal.{diagonal, reduced_columns, reduced_norms}
-use Rattle.tridiagonal.proofs.Columns.{Shaped, shaped_lower, lower_put, lower_cons, lower_none}
+use Rattle.tridiagonal.proofs.Columns.{shaped_lower, lower_put, lower_cons, lower_none}
 use Rattle.tridiagonal.proofs.Shapes.{shaped_reduced}
 
 pub lower_map : {C : Type 0} (f : C → C) (n k m : ℕ) (t : List C) → lower n k m (map f t) ≡ map (map f) (lower n k m t)

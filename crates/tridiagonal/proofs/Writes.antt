@@ -1,6 +1,6 @@
 -- Loops that write a column in place, from the first entry on.
 use Rattle.std.proofs.Common.{◌≡◌, ℕ, ◌+◌, ◌<◌, ◌≤◌, List, [], ◌∷◌, ◌++◌, map, length, get_or, take, drop, set, sym, refl, ap, ◌∙◌, append_assoc, arith, drop-set-lt}
-use Rattle.std.proofs.lemmas.List.{take_more_set, drop_more, append-nil, take_all, drop_all}
+use Rattle.std.proofs.lemmas.List.{take_more_set, drop_more, append-nil, take_all}
 use Rattle.tridiagonal.specs.Blas.{zipped}
 
 -- One entry more: H makes what is left of the column, and H' the rest after it.

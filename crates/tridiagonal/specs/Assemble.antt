@@ -3,7 +3,6 @@ use Rattle.std.specs.Prelude.{ℕ, zero, suc, ◌-◌, ◌*◌, Bool, cond, ◌&
 use Rattle.fault.specs.declared.Fault.{Fault}
 use Rattle.fault.specs.Refusals.{Refusal, refusal, refused}
 use Rattle.tridiagonal.specs.Householder.{Kind, reflected}
-use Rattle.tridiagonal.specs.Tables.{lower}
 
 module _ {C R : Type 0} (K : Kind C R) where
   -- m entries of column j of the identity, from row i down

@@ -1,7 +1,5 @@
 -- What a reduction answers and leaves. Definitions only.
-use Rattle.std.specs.Prelude.{ℕ, ◌-◌, cond, List, [], ◌∷◌, map, drop, Some, None, Ok, Err, Option, Result, slice_index_or}
-use Rattle.fault.specs.declared.Fault.{Fault}
-use Rattle.fault.specs.Refusals.{Refusal, refusal}
+use Rattle.std.specs.Prelude.{ℕ, ◌-◌, cond, List, [], ◌∷◌, map, drop, slice_index_or}
 use Rattle.tridiagonal.specs.Blas.{unscaled}
 use Rattle.tridiagonal.specs.Householder.{Kind}
 use Rattle.tridiagonal.specs.Tables.{lower, put}

@@ -1,4 +1,4 @@
-use Rattle.std.proofs.Common.{◌≡◌, List, ◌++◌, vec_items, sym, ap, ◌∙◌}
+use Rattle.std.proofs.Common.{List, ◌++◌, sym, ap, ◌∙◌}
 use Rattle.decomposition.specs.Solutions.{column_of}
 use Rattle.decomposition.proofs.HeldRows.{columns_none, columns_more}
 use Rattle.decomposition.proofs.buffers.columns_of.Goals as goal

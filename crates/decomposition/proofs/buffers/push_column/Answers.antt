@@ -1,4 +1,4 @@
-use Rattle.std.proofs.Common.{◌≡◌, ℕ, ◌<◌, ◌≤◌, length, vec_items, subst, arith}
+use Rattle.std.proofs.Common.{◌<◌, ◌≤◌, length, vec_items, arith}
 use Rattle.decomposition.proofs.HeldRows.{column_more, column_all}
 use Rattle.decomposition.proofs.buffers.push_column.Goals as goal
 

@@ -1,9 +1,9 @@
-use Rattle.std.proofs.Common.{◌≡◌, ℕ, ◌*◌, true, false, IfOk, vec_items, sym, ap, ◌∙◌, subst}
+use Rattle.std.proofs.Common.{ℕ, false, IfOk, vec_items, ap, ◌∙◌, subst}
 use Rattle.std.proofs.lemmas.Result.{err_from_is_err_and}
 use Rattle.tridiagonal.specs.Householder.{kind}
 use Rattle.decomposition.specs.Forms.{Counts, form_of}
-use Rattle.decomposition.specs.Solutions.{Form, Solution, given_room, had_room, solution_of}
-use Rattle.decomposition.proofs.Whole.{solves, unformed, same_values}
+use Rattle.decomposition.specs.Solutions.{Form, given_room, had_room}
+use Rattle.decomposition.proofs.Whole.{solves, unformed}
 use Rattle.decomposition.proofs.solve.symmetric_eigenvalues.Goals as goal
 
 pub returns-in_err-form : goal.returns-in_err-form

@@ -1,4 +1,4 @@
-use Rattle.std.proofs.Common.{◌≡◌, ℕ, ◌*◌, true, List, [], length, vec_items, sym, refl, ap, ◌∙◌}
+use Rattle.std.proofs.Common.{◌≡◌, true, length, vec_items, refl, ap, ◌∙◌}
 use Rattle.std.specs.Vec.{with_items}
 use Rattle.std.proofs.lemmas.List.{with_items_is}
 use Rattle.std.proofs.lemmas.Result.{err_from_is_err_and}
@@ -7,7 +7,6 @@ use Rattle.rows.specs.Keepers.{Kept}
 use Rattle.rows.specs.Makes.{all_rows}
 use Rattle.tridiagonal.specs.Householder.{kind}
 use Rattle.eigen.specs.Runs.{Run}
-use Rattle.eigen.specs.Settles.{settle_of}
 use Rattle.decomposition.specs.Forms.{form_of}
 use Rattle.decomposition.proofs.Settling.{run, same_run, settles, unsettled, assembled, held_of_q, rows_held, vectors_turned, count_vectors}
 use Rattle.decomposition.proofs.solve.vectors_of.Goals as goal

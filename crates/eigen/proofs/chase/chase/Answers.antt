@@ -1,8 +1,6 @@
-use Rattle.std.proofs.Common.{◌≡◌, ℕ, ◌<◌, sym, ap, ◌∙◌, subst, arith}
+use Rattle.std.proofs.Common.{◌<◌, sym, ap, ◌∙◌, arith}
 use Rattle.rows.specs.Turns.{turn_of}
 use Rattle.rows.specs.declared.direction.Direction.TheVariants.{Back}
-use Rattle.eigen.specs.Turnings.{Left, left_by}
-use Rattle.eigen.specs.Chases.{chased}
 use Rattle.eigen.proofs.Turned
 use Rattle.eigen.proofs.Turned.{chase_done, chase_whole, chase_left, chase_over, turned_width}
 use Rattle.eigen.proofs.chase.chase.Goals as goal

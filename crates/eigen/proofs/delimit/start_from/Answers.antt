@@ -1,4 +1,4 @@
-use Rattle.std.proofs.Common.{◌≡◌, ◌<◌, sym, ◌∙◌, arith}
+use Rattle.std.proofs.Common.{sym, ◌∙◌, arith}
 use Rattle.eigen.proofs.Falls.{fall_goes, fall_stops}
 use Rattle.eigen.proofs.delimit.start_from.Goals as goal
 

@@ -1,4 +1,4 @@
-use Rattle.std.proofs.Common.{◌≡◌, ℕ, ◌<◌, ◌≤◌, sym, ap, ◌∙◌, arith}
+use Rattle.std.proofs.Common.{◌≤◌, ap, ◌∙◌, arith}
 use Rattle.eigen.specs.Iterate.{settled, not_settled, no_pair}
 use Rattle.eigen.proofs.Running.{ended_of, ends_over, ends_single, ends_broken, ends_passed, run_ends, pass_falls}
 use Rattle.eigen.proofs.symmetric_eigen.run.Goals as goal

@@ -1,5 +1,4 @@
-use Rattle.std.proofs.Common.{◌≡◌, Bool, cond, sym, ap, ◌∙◌}
-use Rattle.tridiagonal.specs.Blas.{axpy_of, axc_of, axcpy_of}
+use Rattle.tridiagonal.specs.Blas.{axpy_of}
 use Rattle.tridiagonal.proofs.blas.axpy.Goals as goal
 
 pub returns-then-is_zero : goal.returns-then-is_zero

@@ -1,4 +1,4 @@
-use Rattle.std.proofs.Common.{◌≡◌, ◌+◌, ◌-◌, ◌<◌, ◌≤◌, length, drop, sym, ◌∙◌, arith}
+use Rattle.std.proofs.Common.{◌-◌, ◌<◌, ◌≤◌, length, drop, sym, ◌∙◌, arith}
 use Rattle.tridiagonal.proofs.Dots.{dotc_start, dotc_more, dotc_tail, products_more, products_all}
 use Rattle.tridiagonal.proofs.blas.dotc.Goals as goal
 

@@ -1,4 +1,4 @@
-use Rattle.std.proofs.Common.{◌≡◌, ◌-◌, ◌/◌, ◌≤◌, length, drop}
+use Rattle.std.proofs.Common.{◌≡◌, ◌-◌, ◌/◌, ◌≤◌, drop}
 use Rattle.tridiagonal.specs.Blas.{dotc_from, dotc_of, plus_products}
 use Rattle.tridiagonal.proofs.blas.dotc.Given as goal
 

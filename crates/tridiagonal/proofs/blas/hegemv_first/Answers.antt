@@ -1,4 +1,4 @@
-use Rattle.std.proofs.Common.{◌≡◌, ◌<◌, length, get_or, drop, sym, ap, ◌∙◌, arith}
+use Rattle.std.proofs.Common.{◌≡◌, ◌<◌, length, ◌∙◌, arith}
 use Rattle.std.proofs.lemmas.List.{get_or_read, take_rest}
 use Rattle.tridiagonal.specs.Hermitian.{first_sum, first_column}
 use Rattle.tridiagonal.proofs.Lent.{set_first}

@@ -1,4 +1,4 @@
-use Rattle.std.proofs.Common.{◌≡◌, ℕ, zero, ◌+◌, ◌-◌, ◌*◌, ◌<◌, ◌≤◌, List, [], ◌∷◌, ◌++◌, length, get_or, take, drop, sym, refl, ap, ◌∙◌, add-zero, arith, length-drop, take-append-drop, get_or-drop, drop-drop}
+use Rattle.std.proofs.Common.{◌≡◌, ℕ, ◌+◌, ◌-◌, ◌*◌, ◌<◌, ◌≤◌, List, ◌++◌, length, get_or, take, drop, sym, refl, ap, ◌∙◌, add-zero, arith, length-drop, take-append-drop, get_or-drop, drop-drop}
 use borrow.Rule.Slice.PartMut.{put_mid}
 use Rattle.std.proofs.lemmas.List.{take_rest, get_or_read}
 use Rattle.tridiagonal.specs.Blas.{axpy_of}
@@ -6,7 +6,6 @@ use Rattle.tridiagonal.specs.Hermitian.{hegerc_of}
 use Rattle.tridiagonal.specs.Tables.{lower, put}
 use Rattle.tridiagonal.proofs.Columns.{column_held, column_next, put_none, shaped_lower, lower_put}
 use Rattle.tridiagonal.proofs.Products.{hegerc_more, shaped_hegerc}
-use Rattle.tridiagonal.proofs.Writes.{written}
 use Rattle.tridiagonal.proofs.blas.hegerc.Goals as goal
 
 pub axpy_column-requires : goal.axpy_column-requires

@@ -1,4 +1,4 @@
-use Rattle.std.proofs.Common.{◌≡◌, ◌<◌, ◌≤◌, length, ap, ◌∙◌, arith}
+use Rattle.std.proofs.Common.{ap, ◌∙◌}
 use Rattle.tridiagonal.specs.Householder.{kind}
 use Rattle.tridiagonal.proofs.Entries.{entry_found, entry_passed, entry_none}
 use Rattle.tridiagonal.proofs.checks.entry_refused.Goals as goal

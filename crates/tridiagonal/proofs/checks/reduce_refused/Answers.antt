@@ -1,4 +1,4 @@
-use Rattle.std.proofs.Common.{◌≡◌, sym, ◌∙◌}
+use Rattle.std.proofs.Common.{sym, ◌∙◌}
 use Rattle.tridiagonal.specs.Householder.{kind}
 use Rattle.tridiagonal.proofs.Accepted.{refused_side, refused_length, refused_entry}
 use Rattle.tridiagonal.proofs.checks.reduce_refused.Goals as goal

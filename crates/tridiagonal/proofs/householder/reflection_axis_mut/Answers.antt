@@ -1,7 +1,7 @@
-use Rattle.std.proofs.Common.{◌≡◌, true, false, List, length, get_or, set, sym, ap, ◌∙◌}
+use Rattle.std.proofs.Common.{◌≡◌, true, false, set, sym, ap, ◌∙◌}
 use Rattle.std.proofs.lemmas.List.{get_or_read}
 use Rattle.tridiagonal.specs.Blas.{unscaled, normalised}
-use Rattle.tridiagonal.specs.Householder.{kind, signed_norm, axis_factor, axis_reflects, axis_norm, first_moved, axis_of}
+use Rattle.tridiagonal.specs.Householder.{kind, axis_factor, first_moved}
 use Rattle.tridiagonal.proofs.Axes.{signed_is, factor_is, reflects_is, moved_is, norm_kept, norm_turned, axis_kept, axis_made}
 use Rattle.tridiagonal.proofs.householder.reflection_axis_mut.Goals as goal
 

@@ -1,4 +1,4 @@
-use Rattle.std.proofs.Common.{◌≡◌, ℕ, ◌-◌, ◌<◌, ◌≤◌, length, sym, ap, ◌∙◌, arith}
+use Rattle.std.proofs.Common.{◌≡◌, ◌-◌, ◌<◌, ◌≤◌, length, sym, ap, ◌∙◌, arith}
 use Rattle.tridiagonal.specs.Assemble.{unit_from}
 use Rattle.tridiagonal.specs.Householder.{kind}
 use Rattle.tridiagonal.proofs.Assembled.{unit_more, unit_none}

@@ -1,4 +1,3 @@
-use Rattle.std.proofs.Common.{rules}
 use Rattle.tridiagonal.specs.Householder.{reflected}
 use Rattle.tridiagonal.proofs.reflection.reflect_with_sign.Goals as goal
 

@@ -1,4 +1,4 @@
-use Rattle.std.proofs.Common.{◌≡◌, sym, ap, ◌∙◌}
+use Rattle.std.proofs.Common.{ap, ◌∙◌}
 use Rattle.tridiagonal.specs.Householder.{kind}
 use Rattle.tridiagonal.proofs.Entries.{largest_start, largest_more, largest_all}
 use Rattle.tridiagonal.proofs.symmetric_tridiagonal.largest_size.Goals as goal

@@ -1,4 +1,4 @@
-use Rattle.std.proofs.Common.{◌≡◌, ◌+◌, ◌-◌, ◌≤◌, length, take, drop, sym, refl, ap, ◌∙◌, arith, length-drop, length-take-le}
+use Rattle.std.proofs.Common.{◌+◌, ◌-◌, ◌≤◌, length, take, drop, sym, refl, ap, ◌∙◌, arith, length-drop, length-take-le}
 use Rattle.tridiagonal.specs.Householder.{kind, axis_norm}
 use Rattle.tridiagonal.proofs.Steps.{below_part, step_table}
 use Rattle.tridiagonal.proofs.symmetric_tridiagonal.step.Goals as goal

@@ -1,4 +1,4 @@
-use Rattle.std.proofs.Common.{◌≡◌, ◌+◌, ◌-◌, ◌*◌, ◌≤◌, length, sym, ap, ◌∙◌, arith}
+use Rattle.std.proofs.Common.{◌≡◌, ◌+◌, ◌-◌, ◌*◌, ◌≤◌, length, ap, ◌∙◌, arith}
 use Rattle.tridiagonal.specs.Householder.{kind}
 use Rattle.tridiagonal.specs.Tridiagonal.{two, minus_one}
 use Rattle.tridiagonal.proofs.Steps.{three_updates_put}

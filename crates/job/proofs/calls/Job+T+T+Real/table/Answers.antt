@@ -1,4 +1,4 @@
-use Rattle.std.proofs.Common.{◌≡◌, [], ◌∷◌, ◌++◌, length, vec_items, sym, ap, ◌∙◌, arith, rules}
+use Rattle.std.proofs.Common.{◌≡◌, [], ◌∷◌, ◌++◌, vec_items}
 use Rattle.std.proofs.lemmas.List.{map_more, take_all}
 use Rattle.job.specs.Typed.{entry_of}
 use Rattle.job.proofs.calls.Job+T+T+Real.table.Goals as goal
