@@ -1,6 +1,6 @@
 -- The largest size of a table, and what every table that was opened and typed meets. Definitions only.
 use Rattle.std.specs.Prelude.{◌≡◌, ℕ, ◌*◌, ◌<◌, T, List, [], ◌∷◌, length, Some, None, fold, Option, slice_index_or}
-use Rattle.std.specs.List.{AllByRecursion as All}
+use Rattle.std.specs.List.{AllByRecursion}
 use Rattle.scalar.specs.Ops.{Ops, RealOps}
 use Rattle.job.specs.Typed.{Typed, entries, place}
 
@@ -23,7 +23,7 @@ module _ {C R : Type 0} where
   HasSize ops real x = T (real.is_size (ops.size x))
 
   abbrev pub Sized : Ops C R → RealOps R → List C → Type 0
-  Sized ops real xs = All (HasSize ops real) xs
+  Sized ops real xs = AllByRecursion (HasSize ops real) xs
 
   -- a cell's conjugate is typed where it is
   abbrev pub conjugated : Ops C R → Option C → Option C

@@ -2,7 +2,7 @@
 use Rattle.std.proofs.Common.{◌≡◌, ℕ, zero, suc, ◌+◌, Bool, true, false, cond, T, eqb, List, [], ◌∷◌, Some, None, Option, sym, subst}
 use lib.Ieee.{Float, binary64, of_bits}
 use lib.Ieee.Bits.{of_bits-fits}
-use Rattle.std.specs.List.{AllByRecursion as All}
+use Rattle.std.specs.List.{AllByRecursion}
 use Rattle.fault.specs.Refusals.{Refusal as Known, refused}
 use Rattle.scalar.specs.Ops.{Ops, SizeLaws}
 use Rattle.scalar.specs.ComplexOps.{complex_of}
@@ -98,20 +98,20 @@ applied room idle vectors h = tt
 applied room (real j) vectors h = h
 applied room (outline j) vectors h = h
 
-followed : (on : State → Run) (place : ℕ) (a : After) → Leaves a → ((st : State) → OnDesk st → All gathered_table (on st).tables) →
-    All gathered_table (following on place a).tables
+followed : (on : State → Run) (place : ℕ) (a : After) → Leaves a → ((st : State) → OnDesk st → AllByRecursion gathered_table (on st).tables) →
+    AllByRecursion gathered_table (following on place a).tables
 unfolding Leaves OnDesk
 followed on place (goes st) h f = f st h
 followed on place (closes t) h f = (h, f idle tt)
 followed on place (stops w st) h f = tt
 
 ran : (on : ℕ → State → Run) (place : ℕ) (st : State) (f : Found) → OnDesk st →
-    ((n : ℕ) (st : State) → OnDesk st → All gathered_table (on n st).tables) → All gathered_table (running on place st f).tables
+    ((n : ℕ) (st : State) → OnDesk st → AllByRecursion gathered_table (on n st).tables) → AllByRecursion gathered_table (running on place st f).tables
 ran on place st nothing h f = tt
 ran on place st (wrong w) h f = tt
 ran on place st (found s n) h f = followed (on n) place (applying true st s) (applied true st s h) (f n)
 
-run_gathered : (bs : List ℕ) (skip p : ℕ) (st : State) → OnDesk st → All gathered_table (run_from skip p st bs).tables
+run_gathered : (bs : List ℕ) (skip p : ℕ) (st : State) → OnDesk st → AllByRecursion gathered_table (run_from skip p st bs).tables
 unfolding run_from
 run_gathered [] skip p st h = tt
 run_gathered (b ∷ bs) (suc skip) p st h = run_gathered bs skip (p + 1) st h

@@ -1,6 +1,6 @@
 -- Laws over whole sheets. Definitions only.
 use Rattle.std.specs.Prelude.{◌≡◌, ℕ, ◌+◌, true, List, [], ◌∷◌, ◌++◌, length, drop, Some, None, Option, ◌≢◌}
-use Rattle.std.specs.List.{AllByRecursion as All}
+use Rattle.std.specs.List.{AllByRecursion}
 use Rattle.fault.specs.Refusals.{refused}
 use Rattle.job.specs.Gathered.{Gathered}
 use Rattle.sheet.specs.Faults.{Why, rule}
@@ -20,7 +20,7 @@ gathered_reading (closed t after) = gathered_table t
 gathered_reading (broken w place) = Unit {0}
 
 abbrev pub Gathers : List ℕ → Type 0
-Gathers s = All gathered_table (run s).tables
+Gathers s = AllByRecursion gathered_table (run s).tables
 
 -- A refused command changes nothing.
 abbrev pub Unchanged : State → After → Type 0
