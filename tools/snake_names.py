@@ -10,8 +10,10 @@ import re
 import sys
 
 WORD = re.compile(r"[A-Za-z_](?:[\w'′]|-(?=[\w'′]))*")
-DEFINED = re.compile(r"^(\s*)(?:(?:abbrev|unfoldable|pub|private|instance|rec) )*([A-Za-z_](?:[\w'′]|-(?=[\w'′]))*)(?: |\()*[^=]*?:", re.M)
 HEAD = re.compile(r"^(\s*)((?:(?:abbrev|unfoldable|pub|inline|opaque) )*)(record|data)?\s*([A-Za-z_](?:[\w'′]|-(?=[\w'′]))*)((?: [A-Za-z_][\w'′-]*)*) ?(?=[:({])")
+IMPORT = re.compile(r"^use [^\n{]*\{([^}]*)\}", re.M)
+# Where a file of answers gives a name of its own: a let, a binder, or a lemma whose type is no goal.
+BOUND = re.compile(r"\blet ([\w'′-]+)|[(λ] ?([\w'′-]+) :|^([\w'′-]+) : (?!goal\.)", re.M)
 # Names that would fall together with a definition's, or be taken for it.
 CHOSEN = {
     "all-rows-fit": "all_rows_of_q_fit",
@@ -30,19 +32,11 @@ CHOSEN = {
 SKIP = {"use", "where", "module", "record", "data", "let", "in", "mod", "pub", "abbrev", "unfoldable", "mutual"}
 
 
-def antt(root):
-    for folder, dirs, files in os.walk(os.path.join(root, "crates")):
+def files(root, ending):
+    for folder, dirs, names in os.walk(os.path.join(root, "crates")):
         dirs[:] = sorted(d for d in dirs if d != "out")
-        for f in sorted(files):
-            if f.endswith(".antt"):
-                yield os.path.join(folder, f)
-
-
-def sources(root):
-    for folder, dirs, files in os.walk(os.path.join(root, "crates")):
-        dirs[:] = sorted(d for d in dirs if d != "out")
-        for f in sorted(files):
-            if f.endswith(".rt"):
+        for f in sorted(names):
+            if f.endswith(ending):
                 yield os.path.join(folder, f)
 
 
@@ -83,10 +77,24 @@ def snake(name):
     return out.replace("′", "'")
 
 
+def local(path, text):
+    """The names with a dash that a file gives to its own use: lemmas in it, lets and binders."""
+    lines = [line for line in text.split("\n") if not line.startswith("use ") and not line.lstrip().startswith("--")]
+    body = "\n".join(lines)
+    if is_own(path):
+        imported = {w for m in IMPORT.finditer(text) for n in m.group(1).split(",") for w in n.split(" as ")}
+        imported = {w.strip() for w in imported}
+        found = {m.group(0) for m in WORD.finditer(body) if body[m.start() - 1 : m.start()] != "."}
+        found -= imported
+    else:
+        found = {n for m in BOUND.finditer(body) for n in m.groups() if n}
+    return {n: snake(n) for n in found if "-" in n}
+
+
 def main(argv):
     root = "."
     names, members = {}, set()
-    for path in antt(root):
+    for path in files(root, ".antt"):
         if not is_own(path):
             continue
         with open(path, encoding="utf-8") as f:
@@ -97,7 +105,7 @@ def main(argv):
                     if member:
                         members.add(name)
     seen = {}
-    for path in list(antt(root)) + list(sources(root)):
+    for path in [*files(root, ".antt"), *files(root, ".rt")]:
         with open(path, encoding="utf-8") as f:
             for w in WORD.findall(f.read()):
                 seen.setdefault(w, set()).add(path)
@@ -127,10 +135,17 @@ def main(argv):
 
         return WORD.sub(one, text)
 
-    for path in list(antt(root)) + list(sources(root)):
+    for path in [*files(root, ".antt"), *files(root, ".rt")]:
         with open(path, encoding="utf-8") as f:
             text = f.read()
         new = turn(text)
+        if path.endswith(".antt"):
+            own = local(path, new)
+            taken = set(own.values()) & set(WORD.findall(new))
+            if taken:
+                print(f"left: {path}: these names are taken: {sorted(taken)}")
+                own = {n: m for n, m in own.items() if m not in taken}
+            new = WORD.sub(lambda m: m.group(0) if new[m.start() - 1 : m.start()] == "." else own.get(m.group(0), m.group(0)), new)
         if new != text:
             with open(path, "w", encoding="utf-8") as f:
                 f.write(new)
@@ -138,4 +153,4 @@ def main(argv):
 
 
 if __name__ == "__main__":
-    raise SystemExit(main(sys.argv[1:]))
+    raise SystemExit(main(sys.argv[1:]) or 0)

@@ -99,7 +99,7 @@ module _ {R : Type 0} (ops : Ops R R) (real : RealOps R) where
   unfolding settle_of
   task_limit t n m passes e =
       let at_n : check_task ops real t n ≡ free = begun t n passes (check_task ops real t n) e in
-      let at-m : allowed m ≡ true → check_task ops real t m ≡ free =
+      let at_m : allowed m ≡ true → check_task ops real t m ≡ free =
       λ ok. other_limit (length t.values) (length t.offs) t.tolerance n m t.width t.side ok at_n in
       let start = searched ops real t.tolerance t.values t.offs (t.side - 1) in
       let step = pass_of ops real t.tolerance in
@@ -107,13 +107,13 @@ module _ {R : Type 0} (ops : Ops R R) (real : RealOps R) where
       sym (ap (λ (a : Answer (Unit {0})). (settle_by ops real t n a).answer) at_n) ∙ e in
       let other = any_limit step n m 0 passes start settles in
       let below : passes < 0 + n = (counted step n 0 passes start settles).1 in
-      let ok-n : allowed n ≡ true = check_allowed (eqb (length t.values) t.side && eqb (length t.offs + 1) t.side)
+      let ok_n : allowed n ≡ true = check_allowed (eqb (length t.values) t.side && eqb (length t.offs + 1) t.side)
       (unlawful ops real t.tolerance) (allowed n) (eqb t.width t.side) at_n in
       let z : 0 + m ≡ m = omega arith in (
-        λ ok h. ap (settle_by ops real t m) (at-m ok) ∙ ap (run_by ops t.largest) (other.0 (omega arith))
+        λ ok h. ap (settle_by ops real t m) (at_m ok) ∙ ap (run_by ops t.largest) (other.0 (omega arith))
             ∙ sym (ap (settle_by ops real t n) at_n),
         λ least h.
-            ap (λ (a : Answer (Unit {0})). (settle_by ops real t m a).answer) (at-m (lower_allowed n m ok-n least (omega arith)))
+            ap (λ (a : Answer (Unit {0})). (settle_by ops real t m a).answer) (at_m (lower_allowed n m ok_n least (omega arith)))
             ∙ other.1 (omega arith) ∙ ap not_settled z,
       )
 

@@ -63,7 +63,7 @@ module _ {C R : Type 0} (ops : Ops C R) (real : RealOps R) where
     written_gathered j row column x lower inside free size h = record {
       whole = placed_whole ops j.side j.cells row column x ∙ h.whole;
       mirrored = placed_mirrored ops j.side j.cells row column x h.whole lower inside h.mirrored;
-      sized = rw (placed_entries ops j.side j.cells row column x) sized-after;
+      sized = rw (placed_entries ops j.side j.cells row column x) sized_after;
       largest =
           ap (λ n. real.larger n (ops.size x)) h.largest ∙
           sym (ap (largest_size ops real) (placed_entries ops j.side j.cells row column x) ∙ grown);
@@ -75,19 +75,19 @@ module _ {C R : Type 0} (ops : Ops C R) (real : RealOps R) where
         above_in : place j.side column row < length j.cells
         above_in = above_inside ops j.side j.cells row column x h.whole lower inside
 
-        above-none : get_or j.cells (place j.side column row) None ≡ None
-        above-none = above_free ops j.side j.cells row column x h.whole lower inside h.mirrored free
+        above_none : get_or j.cells (place j.side column row) None ≡ None
+        above_none = above_free ops j.side j.cells row column x h.whole lower inside h.mirrored free
 
-        conj-size : HasSize ops real (ops.conj x)
-        conj-size = rw (sizes.conjugate x) size
+        conj_size : HasSize ops real (ops.conj x)
+        conj_size = rw (sizes.conjugate x) size
 
         after : List C
         after = set (set (entries ops j) (place j.side column row) (ops.conj x)) (place j.side row column) x
 
-        sized-after : Sized ops real after
-        sized-after =
+        sized_after : Sized ops real after
+        sized_after =
             All-set (HasSize ops real) (set (entries ops j) (place j.side column row) (ops.conj x)) (place j.side row column) x size
-            (All-set (HasSize ops real) (entries ops j) (place j.side column row) (ops.conj x) conj-size h.sized)
+            (All-set (HasSize ops real) (entries ops j) (place j.side column row) (ops.conj x) conj_size h.sized)
 
         grown : largest_size ops real after ≡ real.larger (largest_of ops real j) (ops.size x)
         grown =
@@ -95,7 +95,7 @@ module _ {C R : Type 0} (ops : Ops C R) (real : RealOps R) where
             h.sized size (sizes.conjugate x)
             (rw (length-map j.cells (entry_of ops)) above_in)
             (rw (length-map j.cells (entry_of ops)) at_in)
-            (get_or-map (entry_of ops) j.cells (place j.side column row) None ops.zero above_in ∙ ap (entry_of ops) above-none)
+            (get_or-map (entry_of ops) j.cells (place j.side column row) None ops.zero above_in ∙ ap (entry_of ops) above_none)
             (get_or-map (entry_of ops) j.cells (place j.side row column) None ops.zero at_in ∙ ap (entry_of ops) free)
 
     pub putting_gathered : (j : Typed C R) (row column : ℕ) (x : C) →

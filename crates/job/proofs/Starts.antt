@@ -26,11 +26,11 @@ side_few n s = grind (arith, nat_tests)
 
 -- an empty list resized
 pub resized : {X : Type 0} (n l : ℕ) (xs : List X) (x : X) → xs ≡ [] → l ≡ 0 → take n xs ++ replicate (n - l) x ≡ replicate n x
-resized n l xs x empty none = rw (empty, none, sub-zero, take-nil n)
+resized n l xs x empty none = rw (empty, none, sub-zero, take_nil n)
   where
-    take-nil : {X : Type 0} (m : ℕ) → take {A = X} m [] ≡ []
-    take-nil zero = refl
-    take-nil (suc m) = refl
+    take_nil : {X : Type 0} (m : ℕ) → take {A = X} m [] ≡ []
+    take_nil zero = refl
+    take_nil (suc m) = refl
 
 module _ {C R : Type 0} (ops : Ops C R) (n : ℕ) where
   -- a new table, by what was stored in it

@@ -70,11 +70,11 @@ module _ (f : Format) (l : Layout) (h : Lays f l) (m i z : ℕ) (e : z ≡ size 
       → (i + z + l.rise) / 2 * l.hidden + q ≡ root_at f m i
   whole_is w q few u v =
       let p = prec f in
-      let w-is : w ≡ m * 2 ^ (63 - size m + place f m i % 2) = u ∙ ap (λ (x : ℕ). m * 2 ^ (63 - size m + x % 2)) place_is in
-      let n-is : w * 4 ^ suc p / 2 ^ 64 ≡ 4 * radicand_of f m i =
-      ap (λ (x : ℕ). x * 4 ^ suc p / 2 ^ 64) w-is
+      let w_is : w ≡ m * 2 ^ (63 - size m + place f m i % 2) = u ∙ ap (λ (x : ℕ). m * 2 ^ (63 - size m + x % 2)) place_is in
+      let n_is : w * 4 ^ suc p / 2 ^ 64 ≡ 4 * radicand_of f m i =
+      ap (λ (x : ℕ). x * 4 ^ suc p / 2 ^ 64) w_is
       ∙ window_radicand m p (place f m i % 2) few (omega (arith, two f)) (omega (arith, (bounds f).digits)) in
-      let q-is : q ≡ nearest_root p (radicand_of f m i) =
+      let q_is : q ≡ nearest_root p (radicand_of f m i) =
       v ∙ ap (λ (d : ℕ). (whole_root (suc d) (w * 4 ^ suc d / 2 ^ 64) + 1) / 2) h.digits
-      ∙ ap (λ (n : ℕ). (whole_root (suc p) n + 1) / 2) n-is in
-      λ j. high_is j + q-is j
+      ∙ ap (λ (n : ℕ). (whole_root (suc p) n + 1) / 2) n_is in
+      λ j. high_is j + q_is j

@@ -59,11 +59,11 @@ module _ {C : Type 0} (d : C) (w n : ℕ) where
 
   module _ {R : Type 0} (ops : Ops C R) (c : R) (t : C) (i : ℕ) (inside : suc i < w) where
     -- both writes turn the row, where a and b are its old entries
-    rows-turned : (cells : List C) (r : ℕ) (a b : C) → r < n → length cells ≡ w * n →
+    rows_turned : (cells : List C) (r : ℕ) (a b : C) → r < n → length cells ≡ w * n →
         get_or cells (r + i * n) d ≡ a → get_or cells (r + suc i * n) d ≡ b →
         rows_of d w n (set (set cells (r + i * n) (first ops c t a b)) (r + suc i * n) (second ops c t a b)) ≡
         set (rows_of d w n cells) r (turn_at ops c t i (row_of d w n cells r))
-    rows-turned cells r a b hr len ea eb =
+    rows_turned cells r a b hr len ea eb =
         let hi : i < w = omega arith in
         let row : List C = row_of d w n cells r in
         let whole : length row ≡ w = length-map-range_with_len _ 0 w in
@@ -87,7 +87,7 @@ module _ {C : Type 0} (d : C) (w n : ℕ) where
         rows_of d w n (set (set cells (r + i * n) (first ops c t a b)) (r + suc i * n) (second ops c t a b)) = cc in
         let at_a : get_or cells (r + i * n) d ≡ a = cc in
         let at_b : get_or cells (r + suc i * n) d ≡ b = cc in
-        places ∙ rows-turned cells r a b hr len at_a at_b
+        places ∙ rows_turned cells r a b hr len at_a at_b
         ∙ map_over_more (turn_at ops c t i) rows (rows_of d w n cells) r (row_of d w n cells r) below inv
         (sym (get_or-map-range_with_len (row_of d w n cells) 0 n r r (row_of d w n cells r) hr (zero-add r)))
 

@@ -99,11 +99,11 @@ operands_room false s n = refl
 decode_room : (bs : List ℕ) → wrong_room (decode bs) ≡ true
 unfolding wrong_room
 decode_room [] = refl
-decode_room (b ∷ rest) = coded-room (code_of b)
+decode_room (b ∷ rest) = coded_room (code_of b)
   where
-    coded-room : (o : Option Code) → wrong_room (coded o rest) ≡ true
-    coded-room None = refl
-    coded-room (Some c) = operands_room (leb (operand_bytes c) (length rest)) (saying c (take (operand_bytes c) rest)) (operand_bytes c)
+    coded_room : (o : Option Code) → wrong_room (coded o rest) ≡ true
+    coded_room None = refl
+    coded_room (Some c) = operands_room (leb (operand_bytes c) (length rest)) (saying c (take (operand_bytes c) rest)) (operand_bytes c)
 
 wrong_has_room : (i p : ℕ) (y : Why) (f : Found) → wrong_room f ≡ true → refuses y p ≡ at i f → room_for y ≡ true
 unfolding wrong_room

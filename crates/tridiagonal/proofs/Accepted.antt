@@ -12,7 +12,7 @@ pub side_within : (n : ℕ) → side_refused n ≡ false → (0 < n) × (n ≤ 5
 side_within n e =
     let parts = or_parts (eqb n 0) (ltb 512 n) e in
     let few = ltb-false 512 n parts.1 in
-    let some : 0 < n = let not-zero = eqb-false n 0 parts.0 in omega (arith, not-zero) in
+    let some : 0 < n = let not_zero = eqb-false n 0 parts.0 in omega (arith, not_zero) in
     (some, few)
 
 pub record Lengths (n table values offs signs scratch : ℕ) : Type 0 where

@@ -61,11 +61,11 @@ module _ {C R : Type 0} (K : Kind C R) where
       length_axpy K.ops
       (K.ops.mul (K.ops.sub (dotc_of K.ops axis ys) K.ops.zero) (K.ops.scale sign K.real.minus_two)) sign axis ys e
 
-  module _ (n r : ℕ) (axis : List C) (sign : C) (rows : r ≤ n) (as-axis : length axis ≡ n - r) where
-    reflected-cons : (m : ℕ) (q : List C) → reflected_columns K n r axis sign (suc m) q ≡
+  module _ (n r : ℕ) (axis : List C) (sign : C) (rows : r ≤ n) (as_axis : length axis ≡ n - r) where
+    reflected_cons : (m : ℕ) (q : List C) → reflected_columns K n r axis sign (suc m) q ≡
         take r q ++ (reflected K axis sign (take (n - r) (drop r q)) ++ reflected_columns K n r axis sign m (drop n q))
     unfolding reflected_columns
-    reflected-cons m q = refl
+    reflected_cons m q = refl
 
     pub reflected_none : (q : List C) → reflected_columns K n r axis sign 0 q ≡ q
     unfolding reflected_columns
@@ -81,7 +81,7 @@ module _ {C R : Type 0} (K : Kind C R) where
         let there : n - r ≤ length (drop (b + r) q) = let d = length-drop (b + r) q in omega arith in
         let old = length-take-le (n - r) (drop (b + r) q) there in
         let c = reflected K axis sign (take (n - r) (drop (b + r) q)) in
-        let long : length c ≡ n - r = length_reflected axis (take (n - r) (drop (b + r) q)) sign (as-axis ∙ sym old) ∙ old in
+        let long : length c ≡ n - r = length_reflected axis (take (n - r) (drop (b + r) q)) sign (as_axis ∙ sym old) ∙ old in
         let end : e ≡ b + r + length c = omega arith in
         let over : b + r + (b + n - (b + r)) ≤ e = omega arith in
         let part : length c ≡ b + n - (b + r) = omega arith in
@@ -97,7 +97,7 @@ module _ {C R : Type 0} (K : Kind C R) where
         (reflected K axis sign (take (n - r) l) ++ reflected_columns K n r axis sign (m - (j + 1)) (drop n (drop b q)))))
         (sym (drop-drop r b q))
         ∙ ap (λ (l : List C). take b q ++ l)
-        (sym (ap (λ (k : ℕ). reflected_columns K n r axis sign k (drop b q)) count ∙ reflected-cons (m - (j + 1)) (drop b q)))
+        (sym (ap (λ (k : ℕ). reflected_columns K n r axis sign k (drop b q)) count ∙ reflected_cons (m - (j + 1)) (drop b q)))
 
   assembled_cons : (n i : ℕ) (c : List C) (cs : List (List C)) (s : C) (signs : List C) →
       assembled_from K n i (c ∷ cs) (s ∷ signs) ≡ reflected_from K n i (drop 1 c) (K.ops.sign s) (assembled_from K n (suc i) cs signs)
@@ -121,7 +121,7 @@ module _ {C R : Type 0} (K : Kind C R) where
       u ≡ put_mid (p * n) (length q - p * n) q y →
       q ≡ assembled_from K n (p + 1) (lower n (p + 1) (n - (p + 1)) (drop ((p + 1) * n) T)) (drop (p + 1) signs) →
       u ≡ assembled_from K n p (lower n p (n - p) (drop (p * n) T)) (drop p signs)
-  assembled_more n p T signs q x y u axis s sign some has is-s is-sign is-axis is_x is_y is-u is-q =
+  assembled_more n p T signs q x y u axis s sign some has is_s is_sign is_axis is_x is_y is_u is_q =
       let all : p + (n - p) ≡ n = omega arith in
       let one : 0 < n - p = omega arith in
       let count : n - p - 1 ≡ n - (p + 1) = omega arith in
@@ -130,20 +130,20 @@ module _ {C R : Type 0} (K : Kind C R) where
       let place : p * n + p + 1 ≡ p * n + (p + 1) = omega arith in
       let below : drop 1 c ≡ axis =
       ap (λ (m : ℕ). drop 1 (take m (drop (p * n + p) T))) wide ∙ drop-take 1 (n - (p + 1)) (drop (p * n + p) T)
-      ∙ ap (take (n - (p + 1))) (drop-drop 1 (p * n + p) T ∙ ap (λ (m : ℕ). drop m T) place) ∙ sym is-axis in
+      ∙ ap (take (n - (p + 1))) (drop-drop 1 (p * n + p) T ∙ ap (λ (m : ℕ). drop m T) place) ∙ sym is_axis in
       let cs = lower n (p + 1) (n - (p + 1)) (drop ((p + 1) * n) T) in
       let columns : lower n p (n - p) (drop (p * n) T) ≡ c ∷ cs =
       lower_more n p (n - p) (p * n) ((p + 1) * n) T all one (column_next p n)
       ∙ ap (λ (m : ℕ). c ∷ lower n (p + 1) m (drop ((p + 1) * n) T)) count in
       let left : drop p signs ≡ s ∷ drop (p + 1) signs =
-      drop_more signs p s has ∙ ap (λ (z : C). z ∷ drop (p + 1) signs) (sym is-s) in
+      drop_more signs p s has ∙ ap (λ (z : C). z ∷ drop (p + 1) signs) (sym is_s) in
       let last : assembled_from K n (suc p) cs (drop (p + 1) signs) ≡ q =
-      ap (λ (m : ℕ). assembled_from K n m cs (drop (p + 1) signs)) (sym (add-one p)) ∙ sym is-q in
-      is-u ∙ end_written (p * n) q y ∙ ap (λ (l : List C). take (p * n) q ++ l) is_y
+      ap (λ (m : ℕ). assembled_from K n m cs (drop (p + 1) signs)) (sym (add-one p)) ∙ sym is_q in
+      is_u ∙ end_written (p * n) q y ∙ ap (λ (l : List C). take (p * n) q ++ l) is_y
       ∙ ap (λ (l : List C). take (p * n) q ++ reflected_columns K n (p + 1) axis sign (n - p) l) (is_x ∙ take_rest q (p * n))
       ∙ ap (λ (m : ℕ). take (p * n) q ++ reflected_columns K n m axis sign (n - p) (drop (p * n) q)) (add-one p)
       ∙ ap (λ (l : List C). take (p * n) q ++ reflected_columns K n (suc p) l sign (n - p) (drop (p * n) q)) (sym below)
-      ∙ ap (λ (z : C). take (p * n) q ++ reflected_columns K n (suc p) (drop 1 c) z (n - p) (drop (p * n) q)) is-sign
+      ∙ ap (λ (z : C). take (p * n) q ++ reflected_columns K n (suc p) (drop 1 c) z (n - p) (drop (p * n) q)) is_sign
       ∙ ap (reflected_from K n p (drop 1 c) (K.ops.sign s)) (sym last)
       ∙ sym (assembled_cons n p c cs s (drop (p + 1) signs))
       ∙ ap (λ (l : List C). assembled_from K n p (c ∷ cs) l) (sym left)

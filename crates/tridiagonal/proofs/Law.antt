@@ -15,7 +15,7 @@ use Rattle.tridiagonal.proofs.Columns.{lower_cons, lower_none, column_held}
 use Rattle.tridiagonal.proofs.Whole.{whole_table, whole_lower}
 
 -- Tables alike on and below the diagonal have the same lower columns.
-module _ {C : Type 0} (n : ℕ) (t u : List C) (t-long : length t ≡ n * n) (u-long : length u ≡ n * n) (alike : AlikeBelow n t u) where
+module _ {C : Type 0} (n : ℕ) (t u : List C) (t_long : length t ≡ n * n) (u_long : length u ≡ n * n) (alike : AlikeBelow n t u) where
   column_long : (k m : ℕ) (x : List C) → k + suc m ≡ n → length x ≡ n * n → length (take (suc m) (drop k (drop (k * n) x))) ≡ suc m
   column_long k m x all long =
       let held = column_held k n n (omega arith) in
@@ -28,13 +28,13 @@ module _ {C : Type 0} (n : ℕ) (t u : List C) (t-long : length t ≡ n * n) (u-
 
   column_same : (k m : ℕ) → k + suc m ≡ n → take (suc m) (drop k (drop (k * n) t)) ≡ take (suc m) (drop k (drop (k * n) u))
   column_same k m all =
-      let long = column_long k m t all t-long in
-      same_lists (take (suc m) (drop k (drop (k * n) t))) (take (suc m) (drop k (drop (k * n) u))) (long ∙ sym (column_long k m u all u-long))
+      let long = column_long k m t all t_long in
+      same_lists (take (suc m) (drop k (drop (k * n) t))) (take (suc m) (drop k (drop (k * n) u))) (long ∙ sym (column_long k m u all u_long))
       (λ i d h.
-      let in-column : i < suc m = omega arith in
+      let in_column : i < suc m = omega arith in
       let below : k ≤ k + i = omega arith in
       let row : k + i < n = omega arith in
-      entry_of k m i t d in-column ∙ alike (k + i) k d below row ∙ sym (entry_of k m i u d in-column))
+      entry_of k m i t d in_column ∙ alike (k + i) k d below row ∙ sym (entry_of k m i u d in_column))
 
   columns_same : (k m : ℕ) → k + m ≡ n → lower n k m (drop (k * n) t) ≡ lower n k m (drop (k * n) u)
   columns_same k zero all = lower_none n k (drop (k * n) t) ∙ sym (lower_none n k (drop (k * n) u))

@@ -30,10 +30,10 @@ module _ {C R : Type 0} (o : Ops C R) where
     unfolding hegemv_of
     hegemv_start c xs p cs e = ap (λ (l : List C). take 1 l ++ hegemv_from o a cs (drop 1 xs) (drop 1 l)) e
 
-    hegemv-cons : (c xs p : List C) (cs : List (List C)) →
+    hegemv_cons : (c xs p : List C) (cs : List (List C)) →
         hegemv_from o a (c ∷ cs) xs p ≡ row_sum o a c xs p ∷ hegemv_from o a cs (drop 1 xs) (below_sum o a c xs p)
     unfolding hegemv_from
-    hegemv-cons c xs p cs = refl
+    hegemv_cons c xs p cs = refl
 
     pub hegemv_more : (c x p q : List C) (cs : List (List C)) (j : ℕ) → j ≤ length p →
         q ≡ take j p ++ (row_sum o a c (drop j x) (drop j p) ∷ below_sum o a c (drop j x) (drop j p)) →
@@ -50,17 +50,17 @@ module _ {C R : Type 0} (o : Ops C R) where
         ∙ ap (λ (l : List C). (take j p ++ (sum ∷ [])) ++ hegemv_from o a cs (drop (j + 1) x) l) back
         ∙ ap (λ (l : List C). (take j p ++ (sum ∷ [])) ++ hegemv_from o a cs l below) (sym (drop-drop 1 j x))
         ∙ append_assoc (take j p) (sum ∷ []) (hegemv_from o a cs (drop 1 (drop j x)) below)
-        ∙ ap (λ (l : List C). take j p ++ l) (sym (hegemv-cons c (drop j x) (drop j p) cs))
+        ∙ ap (λ (l : List C). take j p ++ l) (sym (hegemv_cons c (drop j x) (drop j p) cs))
 
     pub hegemv_all : (xs p : List C) (j : ℕ) → take j p ++ hegemv_from o a [] xs (drop j p) ≡ p
     unfolding hegemv_from
     hegemv_all xs p j = take-append-drop j p
 
-    hegerc-cons : (xs ys c : List C) (cs : List (List C)) →
+    hegerc_cons : (xs ys c : List C) (cs : List (List C)) →
         hegerc_of o a xs ys (c ∷ cs) ≡
         axpy_of o (o.mul a (o.conj (get_or ys 0 o.zero))) xs o.one c ∷ hegerc_of o a (drop 1 xs) (drop 1 ys) cs
     unfolding hegerc_of
-    hegerc-cons xs ys c cs = refl
+    hegerc_cons xs ys c cs = refl
 
     pub shaped_hegerc : (m : ℕ) (xs ys : List C) (cs : List (List C)) → Shaped m cs → length xs ≡ m → Shaped m (hegerc_of o a xs ys cs)
     unfolding hegerc_of
@@ -78,13 +78,13 @@ module _ {C R : Type 0} (o : Ops C R) where
         u ≡ put_mid (b + k) (e - (b + k)) t c →
         take e u ++ put n (k + 1) (m - 1) (hegerc_of o a (drop 1 xs) (drop 1 ys) (lower n (k + 1) (m - 1) (drop e u))) (drop e u) ≡
         take b t ++ put n k m (hegerc_of o a xs ys (lower n k m (drop b t))) (drop b t)
-    hegerc_more n k m b e t u c xs ys all some next held as-x made write =
+    hegerc_more n k m b e t u c xs ys all some next held as_x made write =
         let start : b + k ≤ length t = omega arith in
         let wide : n - k ≡ m = omega arith in
         let there : n - k ≤ length (drop (b + k) t) = let d = length-drop (b + k) t in omega arith in
         let old : length (take (n - k) (drop (b + k) t)) ≡ m = length-take-le (n - k) (drop (b + k) t) there ∙ wide in
         let long : length c ≡ m =
-        ap length made ∙ length_axpy (o.mul a (o.conj (get_or ys 0 o.zero))) o.one xs (take (n - k) (drop (b + k) t)) (as-x ∙ sym old)
+        ap length made ∙ length_axpy (o.mul a (o.conj (get_or ys 0 o.zero))) o.one xs (take (n - k) (drop (b + k) t)) (as_x ∙ sym old)
         ∙ old in
         let over : b + k + (e - (b + k)) ≤ e = omega arith in
         let part : length c ≡ e - (b + k) = omega arith in
@@ -92,7 +92,7 @@ module _ {C R : Type 0} (o : Ops C R) where
         let left = hegerc_of o a (drop 1 xs) (drop 1 ys) (lower n (k + 1) (m - 1) (drop e t)) in
         let cols : hegerc_of o a xs ys (lower n k m (drop b t)) ≡ c ∷ left =
         ap (hegerc_of o a xs ys) (lower_more n k m b e t all some next)
-        ∙ hegerc-cons xs ys (take (n - k) (drop (b + k) t)) (lower n (k + 1) (m - 1) (drop e t))
+        ∙ hegerc_cons xs ys (take (n - k) (drop (b + k) t)) (lower n (k + 1) (m - 1) (drop e t))
         ∙ ap (λ (l : List C). l ∷ left) (sym made) in
         ap (λ (l : List C). take e u ++ put n (k + 1) (m - 1) (hegerc_of o a (drop 1 xs) (drop 1 ys) (lower n (k + 1) (m - 1) l)) (drop e u)) back
         ∙ ap (λ (l : List C). take e l ++ put n (k + 1) (m - 1) left (drop e l)) write

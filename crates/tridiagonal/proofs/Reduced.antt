@@ -46,21 +46,21 @@ module _ {C R : Type 0} (K : Kind C R) where
     rows : (n - i) * n ≡ (n - i - 1) * n + n
     rows = let count : n - i ≡ suc (n - i - 1) = omega arith in ap (λ (m : ℕ). m * n) count ∙ suc-mul (n - i - 1) n
 
-    all-rows : i + 1 + (n - i - 1) ≡ n
-    all-rows = omega arith
+    all_rows : i + 1 + (n - i - 1) ≡ n
+    all_rows = omega arith
 
-    rest-held : (n - i - 1) * n ≤ length (drop n (drop b T))
-    rest-held =
+    rest_held : (n - i - 1) * n ≤ length (drop n (drop b T))
+    rest_held =
         let r = rows in let d = length-drop b T in let f = length-drop n (drop b T) in omega arith
 
-    long-first : length first ≡ suc (n - i - 1)
-    long-first =
+    long_first : length first ≡ suc (n - i - 1)
+    long_first =
         let r = rows in let d = length-drop b T in let f = length-drop i (drop b T) in
         let there : n - i ≤ length (drop i (drop b T)) = omega arith in
         length-take-le (n - i) (drop i (drop b T)) there ∙ omega arith
 
     shape : Shaped (n - i - 1) (stepped_rest K first others)
-    shape = shaped_rest K (n - i - 1) first others long-first (shaped_lower n (i + 1) (n - i - 1) (drop n (drop b T)) all-rows rest-held)
+    shape = shaped_rest K (n - i - 1) first others long_first (shaped_lower n (i + 1) (n - i - 1) (drop n (drop b T)) all_rows rest_held)
 
     -- the table after the step, cut where the next column begins
     cut : U ≡ (take b T ++ (take i (drop b T) ++ stepped_column K first)) ++ left
@@ -72,20 +72,20 @@ module _ {C R : Type 0} (K : Kind C R) where
         put n m (n - i - 1) (stepped_rest K first others) (drop n (drop b T))))) (sym (add-one i))
         ∙ sym (simp append_assoc)
 
-    long-front : length (take b T ++ (take i (drop b T) ++ stepped_column K first)) ≡ e
-    long-front =
+    long_front : length (take b T ++ (take i (drop b T) ++ stepped_column K first)) ≡ e
+    long_front =
         let r = rows in let d = length-drop b T in
         let x = length-take-le b T (omega arith) in
         let y = length-take-le i (drop b T) (omega arith) in
-        let z = length_stepped_column K (n - i - 1) first long-first in
+        let z = length_stepped_column K (n - i - 1) first long_first in
         let f = length-append (take i (drop b T)) (stepped_column K first) in
         length-append (take b T) (take i (drop b T) ++ stepped_column K first) ∙ omega arith
 
     front : take e U ≡ take b T ++ (take i (drop b T) ++ stepped_column K first)
-    front = ap (take e) cut ∙ take_at (take b T ++ (take i (drop b T) ++ stepped_column K first)) left e long-front
+    front = ap (take e) cut ∙ take_at (take b T ++ (take i (drop b T) ++ stepped_column K first)) left e long_front
 
     back : drop e U ≡ left
-    back = ap (drop e) cut ∙ drop_at (take b T ++ (take i (drop b T) ++ stepped_column K first)) left e long-front
+    back = ap (drop e) cut ∙ drop_at (take b T ++ (take i (drop b T) ++ stepped_column K first)) left e long_front
 
     -- the lower columns before the step, and after it
     before : lower n i (n - i) (drop b T) ≡ first ∷ others
@@ -98,7 +98,7 @@ module _ {C R : Type 0} (K : Kind C R) where
     after : lower n (i + 1) (n - i - 1) (drop e U) ≡ stepped_rest K first others
     after =
         ap (lower n (i + 1) (n - i - 1)) back
-        ∙ lower_put n (i + 1) (n - i - 1) (stepped_rest K first others) (drop n (drop b T)) all-rows rest-held shape
+        ∙ lower_put n (i + 1) (n - i - 1) (stepped_rest K first others) (drop n (drop b T)) all_rows rest_held shape
 
     pub reduced_more : (k : ℕ) →
         take e U ++ put n (i + 1) (n - i - 1) (reduced_columns K k (lower n (i + 1) (n - i - 1) (drop e U))) (drop e U) ≡
@@ -109,7 +109,7 @@ module _ {C R : Type 0} (K : Kind C R) where
         ap (λ (l : List (List C)). take e U ++ put n (i + 1) (n - i - 1) (reduced_columns K k l) (drop e U)) after
         ∙ ap (λ (l : List C). take e U ++ put n (i + 1) (n - i - 1) Z l) back
         ∙ ap (λ (l : List C). take e U ++ l)
-        (put_put n (i + 1) (n - i - 1) (stepped_rest K first others) Z (drop n (drop b T)) all-rows rest-held shape
+        (put_put n (i + 1) (n - i - 1) (stepped_rest K first others) Z (drop n (drop b T)) all_rows rest_held shape
         (shaped_reduced K k (n - i - 1) (stepped_rest K first others) shape))
         ∙ ap (λ (l : List C). l ++ put n (i + 1) (n - i - 1) Z (drop n (drop b T))) front
         ∙ (simp append_assoc)

@@ -16,11 +16,11 @@ module _ {C R : Type 0} (o : Ops C R) (a : C) where
   length_hegemv_from m [] xs ps s hx hp = hp
   length_hegemv_from zero (c ∷ cs) xs ps s hx hp = let no = ap length s in let bad : ⊥ = omega arith in absurd bad
   length_hegemv_from (suc m) (c ∷ cs) xs ps s hx hp =
-      let x-less : length (drop 1 xs) ≡ m = let d = length-drop 1 xs in omega arith in
-      let p-less : length (drop 1 ps) ≡ m = let d = length-drop 1 ps in omega arith in
-      let c-less : length (drop 1 c) ≡ m = let d = length-drop 1 c in let e = s.0 in omega arith in
-      ap suc (length_hegemv_from m cs (drop 1 xs) (below_sum o a c xs ps) s.1 x-less
-      (length_axpy o (o.mul a (get_or xs 0 o.zero)) o.one (drop 1 c) (drop 1 ps) (c-less ∙ sym p-less) ∙ p-less))
+      let x_less : length (drop 1 xs) ≡ m = let d = length-drop 1 xs in omega arith in
+      let p_less : length (drop 1 ps) ≡ m = let d = length-drop 1 ps in omega arith in
+      let c_less : length (drop 1 c) ≡ m = let d = length-drop 1 c in let e = s.0 in omega arith in
+      ap suc (length_hegemv_from m cs (drop 1 xs) (below_sum o a c xs ps) s.1 x_less
+      (length_axpy o (o.mul a (get_or xs 0 o.zero)) o.one (drop 1 c) (drop 1 ps) (c_less ∙ sym p_less) ∙ p_less))
 
   pub length_hegemv : (m : ℕ) (cs : List (List C)) (xs : List C) → Shaped m cs → length xs ≡ m → length (hegemv_of o a cs xs) ≡ m
   unfolding hegemv_of
@@ -28,10 +28,10 @@ module _ {C R : Type 0} (o : Ops C R) (a : C) where
   length_hegemv (suc m) [] xs s hx = absurd s
   length_hegemv zero (c ∷ cs) xs s hx = let no = ap length s in let bad : ⊥ = omega arith in absurd bad
   length_hegemv (suc m) (c ∷ cs) xs s hx =
-      let x-less : length (drop 1 xs) ≡ m = let d = length-drop 1 xs in omega arith in
+      let x_less : length (drop 1 xs) ≡ m = let d = length-drop 1 xs in omega arith in
       let made : length (first_column o a c xs) ≡ suc m = length-map c (λ u. o.mul (o.mul (o.mul a (get_or xs 0 o.zero)) u) o.one) ∙ s.0 in
-      let p-less : length (drop 1 (first_column o a c xs)) ≡ m = let d = length-drop 1 (first_column o a c xs) in omega arith in
-      ap suc (length_hegemv_from m cs (drop 1 xs) (drop 1 (first_column o a c xs)) s.1 x-less p-less)
+      let p_less : length (drop 1 (first_column o a c xs)) ≡ m = let d = length-drop 1 (first_column o a c xs) in omega arith in
+      ap suc (length_hegemv_from m cs (drop 1 xs) (drop 1 (first_column o a c xs)) s.1 x_less p_less)
 
 module _ {C R : Type 0} (K : Kind C R) where
   length_moved : (xs : List C) → length (first_moved K xs) ≡ length xs

@@ -25,15 +25,15 @@ module _ {C R : Type 0} (K : Kind C R) where
       t3 ≡ put n k m (hegerc_of K.ops d axis axis (lower n k m t2)) t2 →
       t3 ≡ put n k m (updated K axis (lower n k m t)) t
   unfolding updated
-  three_updates_put n k m t t1 t2 t3 axis p a b d all held as-axis as-p is-two is-less is-p is-d e1 l1 e2 l2 e3 =
+  three_updates_put n k m t t1 t2 t3 axis p a b d all held as_axis as_p is_two is_less is_p is_d e1 l1 e2 l2 e3 =
       let o = K.ops in
       let cs = lower n k m t in
       let cs1 = hegerc_of o b p axis cs in
       let cs2 = hegerc_of o b axis p cs1 in
       let cs3 = hegerc_of o d axis axis cs2 in
-      let s1 = shaped_hegerc o b m p axis cs (shaped_lower n k m t all held) as-p in
-      let s2 = shaped_hegerc o b m axis p cs1 s1 as-axis in
-      let s3 = shaped_hegerc o d m axis axis cs2 s2 as-axis in
+      let s1 = shaped_hegerc o b m p axis cs (shaped_lower n k m t all held) as_p in
+      let s2 = shaped_hegerc o b m axis p cs1 s1 as_axis in
+      let s3 = shaped_hegerc o d m axis axis cs2 s2 as_axis in
       let w2 : t2 ≡ put n k m cs2 t =
       e2 ∙ ap (λ (l : List (List C)). put n k m (hegerc_of o b axis p l) t1) l1 ∙ ap (put n k m cs2) e1
       ∙ put_put n k m cs1 cs2 t all held s1 s2 in
@@ -78,7 +78,7 @@ module _ {C R : Type 0} (K : Kind C R) (n i : ℕ) (t : List C) (some : i + 1 < 
       put n i (n - i) (stepped_column K (take (n - i) (drop i t)) ∷
       stepped_rest K (take (n - i) (drop i t)) (lower n (i + 1) (n - i - 1) (drop n t))) t
   unfolding stepped_column
-  stepped_is ax u rest long is-ax is-rest is-u =
+  stepped_is ax u rest long is_ax is_rest is_u =
       let start : i + 1 ≤ length t = omega arith in
       let end : n ≡ i + 1 + length ax = omega arith in
       let count : n - i ≡ suc (n - i - 1) = omega arith in
@@ -90,11 +90,11 @@ module _ {C R : Type 0} (K : Kind C R) (n i : ℕ) (t : List C) (some : i + 1 < 
       let column : put n i (n - i) ((take 1 c ++ ax) ∷ rest) t ≡ take i t ++ ((take 1 c ++ ax) ++ put n (i + 1) (n - i - 1) rest (drop n t)) =
       ap (λ (m : ℕ). put n i m ((take 1 c ++ ax) ∷ rest) t) count ∙ put_cons n i (n - i - 1) (take 1 c ++ ax) rest t
       ∙ ap (λ (m : ℕ). take i t ++ ((take 1 c ++ ax) ++ put n m (n - i - 1) rest (drop n t))) (sym (add-one i)) in
-      ap (λ (l : List C). l ++ u) front ∙ ap (λ (l : List C). (take i t ++ take 1 c ++ ax) ++ l) is-u
+      ap (λ (l : List C). l ++ u) front ∙ ap (λ (l : List C). (take i t ++ take 1 c ++ ax) ++ l) is_u
       ∙ (simp append_assoc) ∙ ap (λ (l : List C). take i t ++ l) (sym (append_assoc (take 1 c) ax (put n (i + 1) (n - i - 1) rest (drop n t))))
       ∙ sym column
-      ∙ ap (λ (l : List C). put n i (n - i) ((take 1 c ++ l) ∷ rest) t) is-ax
-      ∙ ap (λ (l : List (List C)). put n i (n - i) ((take 1 c ++ axis_of K (drop 1 c)) ∷ l) t) is-rest
+      ∙ ap (λ (l : List C). put n i (n - i) ((take 1 c ++ l) ∷ rest) t) is_ax
+      ∙ ap (λ (l : List (List C)). put n i (n - i) ((take 1 c ++ axis_of K (drop 1 c)) ∷ l) t) is_rest
 
   pub rest_kept : (cs : List (List C)) (c : List C) → axis_reflects K (drop 1 c) ≡ false → cs ≡ stepped_rest K c cs
   unfolding stepped_rest
@@ -111,12 +111,12 @@ module _ {C R : Type 0} (K : Kind C R) (n i : ℕ) (t : List C) (some : i + 1 < 
       put_mid (i + 1) (n - (i + 1)) t ax ≡
       put n i (n - i) (stepped_column K (take (n - i) (drop i t)) ∷
       stepped_rest K (take (n - i) (drop i t)) (lower n (i + 1) (n - i - 1) (drop n t))) t
-  step_kept col ax is-col is-ax long flag =
-      let below = is-col ∙ sym below_part in
+  step_kept col ax is_col is_ax long flag =
+      let below = is_col ∙ sym below_part in
       let all : i + 1 + (n - i - 1) ≡ n = omega arith in
       let cs = lower n (i + 1) (n - i - 1) (drop n t) in
       sym (take-append-drop n (put_mid (i + 1) (n - (i + 1)) t ax))
-      ∙ stepped_is ax (drop n (put_mid (i + 1) (n - (i + 1)) t ax)) cs long (is-ax ∙ ap (axis_of K) below)
+      ∙ stepped_is ax (drop n (put_mid (i + 1) (n - (i + 1)) t ax)) cs long (is_ax ∙ ap (axis_of K) below)
       (rest_kept cs (take (n - i) (drop i t)) (ap (axis_reflects K) (sym below) ∙ flag))
       (past_axis ax long ∙ sym (put_lower n (i + 1) (n - i - 1) (drop n t) all))
 
@@ -129,22 +129,22 @@ module _ {C R : Type 0} (K : Kind C R) (n i : ℕ) (t : List C) (some : i + 1 < 
       put_mid n (length (put_mid (i + 1) (n - (i + 1)) t ax) - n) (put_mid (i + 1) (n - (i + 1)) t ax) u ≡
       put n i (n - i) (stepped_column K (take (n - i) (drop i t)) ∷
       stepped_rest K (take (n - i) (drop i t)) (lower n (i + 1) (n - i - 1) (drop n t))) t
-  step_reflected col ax axis x u is-col is-ax long flag is-axis is_x is-u =
-      let below = is-col ∙ sym below_part in
+  step_reflected col ax axis x u is_col is_ax long flag is_axis is_x is_u =
+      let below = is_col ∙ sym below_part in
       let start : i + 1 ≤ length t = omega arith in
       let same : n - (i + 1) ≡ n - i - 1 = omega arith in
       let t1 = put_mid (i + 1) (n - (i + 1)) t ax in
       let cs = lower n (i + 1) (n - i - 1) (drop n t) in
       let c = take (n - i) (drop i t) in
       let copied : axis ≡ axis_of K (drop 1 c) =
-      is-axis ∙ between-put_mid (i + 1) (n - (i + 1)) t ax n start long ∙ is-ax ∙ ap (axis_of K) below in
-      let rest-is : x ≡ drop n t = is_x ∙ take_rest t1 n ∙ past_axis ax long in
+      is_axis ∙ between-put_mid (i + 1) (n - (i + 1)) t ax n start long ∙ is_ax ∙ ap (axis_of K) below in
+      let rest_is : x ≡ drop n t = is_x ∙ take_rest t1 n ∙ past_axis ax long in
       let write : u ≡ put n (i + 1) (n - i - 1) (updated K (axis_of K (drop 1 c)) cs) (drop n t) =
-      is-u ∙ ap (λ (m : ℕ). put n (i + 1) m (updated K axis (lower n (i + 1) m x)) x) same
-      ∙ ap (λ (l : List C). put n (i + 1) (n - i - 1) (updated K axis (lower n (i + 1) (n - i - 1) l)) l) rest-is
+      is_u ∙ ap (λ (m : ℕ). put n (i + 1) m (updated K axis (lower n (i + 1) m x)) x) same
+      ∙ ap (λ (l : List C). put n (i + 1) (n - i - 1) (updated K axis (lower n (i + 1) (n - i - 1) l)) l) rest_is
       ∙ ap (λ (l : List C). put n (i + 1) (n - i - 1) (updated K l cs) (drop n t)) copied in
       end_written n t1 u
-      ∙ stepped_is ax u (updated K (axis_of K (drop 1 c)) cs) long (is-ax ∙ ap (axis_of K) below)
+      ∙ stepped_is ax u (updated K (axis_of K (drop 1 c)) cs) long (is_ax ∙ ap (axis_of K) below)
       (rest_reflected cs c (ap (axis_reflects K) (sym below) ∙ flag)) write
 
   -- Both, by what was reported.
@@ -156,14 +156,14 @@ module _ {C R : Type 0} (K : Kind C R) (n i : ℕ) (t : List C) (some : i + 1 < 
       put_mid n (length (put_mid (i + 1) (n - (i + 1)) t ax) - n) (put_mid (i + 1) (n - (i + 1)) t ax) u ≡
       put n i (n - i) (stepped_column K (take (n - i) (drop i t)) ∷
       stepped_rest K (take (n - i) (drop i t)) (lower n (i + 1) (n - i - 1) (drop n t))) t
-  step_table col ax axis x u reflects is-col is-ax long flag is-axis is_x is-u =
+  step_table col ax axis x u reflects is_col is_ax long flag is_axis is_x is_u =
       let t1 = put_mid (i + 1) (n - (i + 1)) t ax in
       let made = put n (i + 1) (n - (i + 1)) (updated K axis (lower n (i + 1) (n - (i + 1)) x)) x in
       ⊎_elim
       (λ (was : reflects ≡ true).
-      step_reflected col ax axis x u is-col is-ax long (sym flag ∙ was) is-axis is_x (is-u ∙ cond-true reflects made x was))
+      step_reflected col ax axis x u is_col is_ax long (sym flag ∙ was) is_axis is_x (is_u ∙ cond-true reflects made x was))
       (λ (was : reflects ≡ false).
       end_written n t1 u
-      ∙ ap (λ (l : List C). take n t1 ++ l) (is-u ∙ cond-false reflects made x was ∙ is_x ∙ take_rest t1 n)
-      ∙ take-append-drop n t1 ∙ step_kept col ax is-col is-ax long (sym flag ∙ was))
+      ∙ ap (λ (l : List C). take n t1 ++ l) (is_u ∙ cond-false reflects made x was ∙ is_x ∙ take_rest t1 n)
+      ∙ take-append-drop n t1 ∙ step_kept col ax is_col is_ax long (sym flag ∙ was))
       (cases_Bool reflects)

@@ -35,37 +35,37 @@ module _ {C R : Type 0} (K : Kind C R) where
       [ true ↦ sym (map-id (lower n k m t)) | false ↦ lower_map (λ x. K.ops.unscale x l) n k m t ]
 
   -- d is the table t divided by its largest size, and T is d reduced
-  module _ (n : ℕ) (t d T : List C) (l : R) (held : length t ≡ n * n) (largest : l ≡ largest_size K t) (is-d : d ≡ divided K l t)
+  module _ (n : ℕ) (t d T : List C) (l : R) (held : length t ≡ n * n) (largest : l ≡ largest_size K t) (is_d : d ≡ divided K l t)
       (is_T : T ≡ put n 0 n (reduced_columns K (n - 1) (lower n 0 n d)) d) where
     table_is : d ≡ divided K (largest_size K t) t
-    table_is = is-d ∙ ap (λ (r : R). divided K r t) largest
+    table_is = is_d ∙ ap (λ (r : R). divided K r t) largest
 
-    columns-are : lower n 0 n d ≡ map (divided K (largest_size K t)) (lower n 0 n t)
-    columns-are = ap (lower n 0 n) table_is ∙ lower_divided (largest_size K t) n 0 n t
+    columns_are : lower n 0 n d ≡ map (divided K (largest_size K t)) (lower n 0 n t)
+    columns_are = ap (lower n 0 n) table_is ∙ lower_divided (largest_size K t) n 0 n t
 
-    reduced-are : reduced_columns K (n - 1) (lower n 0 n d) ≡ reduced_lower K n (largest_size K t) (lower n 0 n t)
+    reduced_are : reduced_columns K (n - 1) (lower n 0 n d) ≡ reduced_lower K n (largest_size K t) (lower n 0 n t)
     unfolding reduced_lower
-    reduced-are = ap (reduced_columns K (n - 1)) columns-are
+    reduced_are = ap (reduced_columns K (n - 1)) columns_are
 
     pub whole_table : T ≡ reduced_table K n t
     unfolding reduced_table
     whole_table =
-        is_T ∙ ap (λ (cs : List (List C)). put n 0 n cs d) reduced-are
+        is_T ∙ ap (λ (cs : List (List C)). put n 0 n cs d) reduced_are
         ∙ ap (put n 0 n (reduced_lower K n (largest_size K t) (lower n 0 n t))) table_is
 
     pub whole_lower : lower n 0 n T ≡ reduced_lower K n (largest_size K t) (lower n 0 n t)
     whole_lower =
-        let long : n * n ≤ length d = let e = ap length is-d in let f = length_divided l t in omega arith in
+        let long : n * n ≤ length d = let e = ap length is_d in let f = length_divided l t in omega arith in
         let all : 0 + n ≡ n = omega arith in
         ap (lower n 0 n) is_T
         ∙ lower_put n 0 n (reduced_columns K (n - 1) (lower n 0 n d)) d all long
         (shaped_reduced K (n - 1) n (lower n 0 n d) (shaped_lower n 0 n d all long))
-        ∙ reduced-are
+        ∙ reduced_are
 
     pub whole_signs : (signs : List C) → signs ≡ reduced_norms K (n - 1) (lower n 0 n d) →
         signs ≡ reduced_signs K n (largest_size K t) (lower n 0 n t)
     unfolding reduced_signs
-    whole_signs signs e = e ∙ ap (reduced_norms K (n - 1)) columns-are
+    whole_signs signs e = e ∙ ap (reduced_norms K (n - 1)) columns_are
 
     pub whole_offs : (signs : List C) (offs : List R) → signs ≡ reduced_norms K (n - 1) (lower n 0 n d) →
         offs ≡ map K.ops.modulus signs → offs ≡ reduced_offs K n (largest_size K t) (lower n 0 n t)

@@ -6,11 +6,11 @@ use Rattle.tridiagonal.proofs.blas.axc.Goals as goal
 
 pub loop-i-preserved : goal.loop-i-preserved
 loop-i-preserved g c =
-    let in-x : c.loop-i.i < length c.args.x.now = omega arith in
-    let in-y : c.loop-i.i < length c.loop-i.y = omega arith in
+    let in_x : c.loop-i.i < length c.args.x.now = omega arith in
+    let in_y : c.loop-i.i < length c.loop-i.y = omega arith in
     let o = g.T.Arithmetic.ops in
     map_out_more (λ u. o.mul (o.mul c.args.a u) o.one) c.args.x.now c.loop-i.y c.loop-i.i
-    c.mul-in-loop-i.result c.index-x-i.result in-x in-y (cc c.index-x-i.is) ∙ c.loop-i.invariant
+    c.mul-in-loop-i.result c.index-x-i.result in_x in_y (cc c.index-x-i.is) ∙ c.loop-i.invariant
 
 pub returns : goal.returns
 returns g c =

@@ -6,11 +6,11 @@ use Rattle.tridiagonal.proofs.blas.axcpy.Goals as goal
 
 pub loop-i-preserved : goal.loop-i-preserved
 loop-i-preserved g c =
-    let in-x : c.loop-i.i < length c.args.x.now = omega arith in
-    let in-y : c.loop-i.i < length c.loop-i.y = omega arith in
+    let in_x : c.loop-i.i < length c.args.x.now = omega arith in
+    let in_y : c.loop-i.i < length c.loop-i.y = omega arith in
     let o = g.T.Arithmetic.ops in
     zipped_more (λ u y. o.add (o.mul (o.mul c.args.a u) o.one) (o.mul c.args.b y)) c.args.x.now c.loop-i.y
-    c.loop-i.i c.add.result c.index-x-i.result c.index-y-i.result in-x in-y
+    c.loop-i.i c.add.result c.index-x-i.result c.index-y-i.result in_x in_y
     (cc (c.index-x-i.is, c.index-y-i.is)) ∙ c.loop-i.invariant
 
 pub returns : goal.returns

@@ -52,8 +52,8 @@ hegemv_column-requires g c =
     let held = column_held j (n - k) n c.loop-j-test.true in
     let there : n - (k + j) ≤ length (drop (j * n + (k + j)) t) = let d = length-drop (j * n + (k + j)) t in omega arith in
     let long = ap length c.column-in-loop-j.ensures ∙ length-take-le (n - (k + j)) (drop (j * n + (k + j)) t) there in
-    let x-long = ap length (take_rest c.args.x.now j) ∙ length-drop j c.args.x.now in
-    let p-long = ap length (take_rest c.loop-j.p j) ∙ length-drop j c.loop-j.p in
+    let x_long = ap length (take_rest c.args.x.now j) ∙ length-drop j c.args.x.now in
+    let p_long = ap length (take_rest c.loop-j.p j) ∙ length-drop j c.loop-j.p in
     let same = c.loop-j.auto.p in
     let first = c.hegemv_first.auto.p in
     record { some = omega arith; as_x = omega arith; as_p = omega arith }
@@ -73,8 +73,8 @@ loop-j-preserved g c =
     let count : n - k - (j + 1) ≡ n - k - j - 1 = omega arith in
     let cols = lower_more n (k + j) (n - k - j) (j * n) ((j + 1) * n) t all some (column_next j n) in
     let cs = lower n (k + j + 1) (n - k - j - 1) (drop ((j + 1) * n) t) in
-    let x-part = take_rest x j in
-    let p-part = take_rest p j in
+    let x_part = take_rest x j in
+    let p_part = take_rest p j in
     let col = take (n - (k + j)) (drop (j * n + (k + j)) t) in
     let made : c.hegemv_column.new.p ≡ row_sum o a col (drop j x) (drop j p) ∷ below_sum o a col (drop j x) (drop j p) =
     cc (c.hegemv_column.ensures, c.column-in-loop-j.ensures) in

@@ -12,7 +12,7 @@ pub axpy_column-requires : goal.axpy_column-requires
 axpy_column-requires g c =
     let held = column_held c.loop-j.j (c.args.n - c.args.k) c.args.n c.loop-j-test.true in
     let same = c.loop-j.auto.t in
-    let x-long = ap length (take_rest c.args.x.now c.loop-j.j) ∙ length-drop c.loop-j.j c.args.x.now in
+    let x_long = ap length (take_rest c.args.x.now c.loop-j.j) ∙ length-drop c.loop-j.j c.args.x.now in
     record { rows = omega arith; held = omega arith; as_x = omega arith }
 
 pub loop-j-preserved : goal.loop-j-preserved
@@ -27,10 +27,10 @@ loop-j-preserved g c =
     let all : k + j + (n - k - j) ≡ n = omega arith in
     let some : 0 < n - k - j = omega arith in
     let ends : (j + 1) * n ≤ length t = omega arith in
-    let x-long : length (drop j x) ≡ n - k - j = let d = length-drop j x in omega arith in
-    let in-y : j < length y = omega arith in
+    let x_long : length (drop j x) ≡ n - k - j = let d = length-drop j x in omega arith in
+    let in_y : j < length y = omega arith in
     let yj : c.index-y-j.result ≡ get_or (drop j y) 0 o.zero =
-    get_or_read y j c.index-y-j.result in-y c.index-y-j.is o.zero
+    get_or_read y j c.index-y-j.result in_y c.index-y-j.is o.zero
     ∙ ap (λ (i : ℕ). get_or y i o.zero) (sym (add-zero j)) ∙ sym (get_or-drop j y 0 o.zero) in
     let factor : c.mul.result ≡ o.mul a (o.conj (get_or (drop j y) 0 o.zero)) = cc in
     let part = take_rest x j in
@@ -43,7 +43,7 @@ loop-j-preserved g c =
     let xs = drop-drop 1 j x in
     let ys = drop-drop 1 j y in
     let step = hegerc_more o a n (k + j) (n - k - j) (j * n) ((j + 1) * n) t u made (drop j x) (drop j y)
-    all some next ends x-long refl write in
+    all some next ends x_long refl write in
     cc (step ∙ c.loop-j.invariant)
 
 pub returns : goal.returns

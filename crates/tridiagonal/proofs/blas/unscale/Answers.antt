@@ -6,9 +6,9 @@ use Rattle.tridiagonal.proofs.blas.unscale.Goals as goal
 
 pub loop-i-preserved : goal.loop-i-preserved
 loop-i-preserved g c =
-    let in-x : c.loop-i.i < length c.loop-i.x = omega arith in
+    let in_x : c.loop-i.i < length c.loop-i.x = omega arith in
     map_over_left (λ x. g.T.Arithmetic.ops.unscale x c.args.divisor) c.loop-i.x c.loop-i.i
-    c.unscale.result c.index-x-i.result in-x (cc c.index-x-i.is) ∙ c.loop-i.invariant
+    c.unscale.result c.index-x-i.result in_x (cc c.index-x-i.is) ∙ c.loop-i.invariant
 
 pub returns : goal.returns
 returns g c =

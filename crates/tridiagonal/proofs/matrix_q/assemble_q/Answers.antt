@@ -55,7 +55,7 @@ reflect_columns-requires g c =
     let k = held c.loop-i.i n (length t) c.loop-i-test.true below c.requires.held in
     let whole = columns_split p n (omega arith) in
     let same : length q ≡ n * n = c.loop-i.auto.q ∙ c.identity.auto.q ∙ c.requires.as_q in
-    let q-long = ap length (take_rest q (p * n)) ∙ length-drop (p * n) q in
+    let q_long = ap length (take_rest q (p * n)) ∙ length-drop (p * n) q in
     let there : n - (p + 1) ≤ length (drop (p * n + (p + 1)) t) = let d = length-drop (p * n + (p + 1)) t in omega arith in
     record {
       rows = omega arith;

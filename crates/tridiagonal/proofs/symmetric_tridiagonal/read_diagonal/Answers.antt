@@ -12,15 +12,15 @@ column-requires g c =
     let held = column_held c.loop-i.i c.args.n c.args.n c.loop-i-test.true in
     record { rows = omega arith; held = omega arith }
 
-some-rows : {C : Type 0} (t c : List C) (i n : ℕ) → i < n → length t ≡ n * n → c ≡ take (n - i) (drop (i * n + i) t) → 0 < length c
-some-rows t c i n h held e =
+some_rows : {C : Type 0} (t c : List C) (i n : ℕ) → i < n → length t ≡ n * n → c ≡ take (n - i) (drop (i * n + i) t) → 0 < length c
+some_rows t c i n h held e =
     let k = column_held i n n h in
     let there : n - i ≤ length (drop (i * n + i) t) = let d = length-drop (i * n + i) t in omega arith in
     let long = ap length e ∙ length-take-le (n - i) (drop (i * n + i) t) there in omega arith
 
 pub bounds-column-0 : goal.bounds-column-0
 bounds-column-0 g c =
-    some-rows c.args.table.now c.column.result.now c.loop-i.i c.args.n c.loop-i-test.true c.requires.held c.column.ensures
+    some_rows c.args.table.now c.column.result.now c.loop-i.i c.args.n c.loop-i-test.true c.requires.held c.column.ensures
 
 pub loop-i-preserved : goal.loop-i-preserved
 loop-i-preserved g c =
@@ -31,7 +31,7 @@ loop-i-preserved g c =
     let count : n - i - 1 ≡ n - (i + 1) = omega arith in
     let within : i < length c.loop-i.values = omega arith in
     let first = c.index-column-0.result in
-    let rows = some-rows t c.column.result.now i n c.loop-i-test.true c.requires.held c.column.ensures in
+    let rows = some_rows t c.column.result.now i n c.loop-i-test.true c.requires.held c.column.ensures in
     let is = c.real.ensures.value ∙ ap K.ops.real (get_or_read c.column.result.now 0 first rows c.index-column-0.is K.ops.zero
     ∙ ap (λ (l : List g.row.T.Denot). get_or l 0 K.ops.zero) c.column.ensures) in
     let cols = lower_more n i (n - i) (i * n) ((i + 1) * n) t all some (column_next i n)

@@ -5,9 +5,9 @@ use Rattle.tridiagonal.proofs.symmetric_tridiagonal.read_moduli.Goals as goal
 
 pub loop-i-preserved : goal.loop-i-preserved
 loop-i-preserved g c =
-    let in-offs : c.loop-i.i < length c.loop-i.offs = omega arith in
+    let in_offs : c.loop-i.i < length c.loop-i.offs = omega arith in
     map_out_more g.T.Arithmetic.ops.modulus c.args.signs.now c.loop-i.offs c.loop-i.i c.modulus.result
-    c.index-signs-i.result c.loop-i-test.true in-offs
+    c.index-signs-i.result c.loop-i-test.true in_offs
     (c.modulus.ensures.value ∙ ap g.T.Arithmetic.ops.modulus c.index-signs-i.is) ∙ c.loop-i.invariant
 
 pub returns : goal.returns

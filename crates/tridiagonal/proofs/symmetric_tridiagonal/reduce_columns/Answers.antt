@@ -35,17 +35,17 @@ step-norm-requires g c =
     let n = c.args.n in let i = c.loop-i.i in let T = c.loop-i.table in
     let k = held i n (length T) c.loop-i-test.true (c.loop-i.auto.table ∙ c.requires.held) in
     let whole = columns_split i n (omega arith) in
-    let t-long = ap length (take_rest T (i * n)) ∙ length-drop (i * n) T in
-    let s-long = ap length (take_rest c.loop-i.signs i) ∙ length-drop i c.loop-i.signs in
-    let p-long = ap length (take_rest c.loop-i.scratch i) ∙ length-drop i c.loop-i.scratch in
-    let t_same = c.loop-i.auto.table in let s-same = c.loop-i.auto.signs in let p-same = c.loop-i.auto.scratch in
+    let t_long = ap length (take_rest T (i * n)) ∙ length-drop (i * n) T in
+    let s_long = ap length (take_rest c.loop-i.signs i) ∙ length-drop i c.loop-i.signs in
+    let p_long = ap length (take_rest c.loop-i.scratch i) ∙ length-drop i c.loop-i.scratch in
+    let t_same = c.loop-i.auto.table in let s_same = c.loop-i.auto.signs in let p_same = c.loop-i.auto.scratch in
     record { some = omega arith; held = omega arith; wide = omega arith; as_axis = omega arith; as_p = omega arith }
 
 pub loop-i-preserved : goal.loop-i-preserved
 loop-i-preserved g c =
     let K = kind g.T.Arithmetic.ops g.T.Real.Arithmetic.ops g.T.Real.RealScalar.real in
     let n = c.args.n in let i = c.loop-i.i in let T = c.loop-i.table in
-    let t_same = c.loop-i.auto.table in let s-same = c.loop-i.auto.signs in
+    let t_same = c.loop-i.auto.table in let s_same = c.loop-i.auto.signs in
     let whole = columns_split i n (omega arith) in
     let some : i + 1 < n = omega arith in
     let held' : i * n + (n - i) * n ≤ length T = omega arith in
@@ -65,7 +65,7 @@ returns g c =
     let n = c.args.n in let i = c.loop-i.i in let T = c.loop-i.table in
     let none : n - 1 - i ≡ 0 = omega arith in
     let all : i + (n - i) ≡ n = omega arith in
-    let full : length c.loop-i.signs ≤ i = let s-same = c.loop-i.auto.signs in omega arith in
+    let full : length c.loop-i.signs ≤ i = let s_same = c.loop-i.auto.signs in omega arith in
     record {
       table = table_end K n i (i * n) (n - 1 - i) (n - i) none all T ∙ c.loop-i.invariant.0;
       signs = norms_end K n i (i * n) (n - 1 - i) (n - i) none all T c.loop-i.signs full ∙ c.loop-i.invariant.1;
