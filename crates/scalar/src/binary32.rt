@@ -119,7 +119,7 @@ impl RealScalar for f32 {
     }
 
     fn sqrt(self) -> f32 {
-        root::root_f32(self)
+        root::root(self)
     }
 
     // The library's `max` leaves open which of two zeros it gives.

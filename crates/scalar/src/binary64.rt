@@ -119,7 +119,7 @@ impl RealScalar for f64 {
     }
 
     fn sqrt(self) -> f64 {
-        root::root_f64(self)
+        root::root(self)
     }
 
     // The library's `max` leaves open which of two zeros it gives.
