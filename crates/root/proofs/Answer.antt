@@ -1,5 +1,5 @@
 -- What the float of the root's pattern is. Assumes nothing.
-use Rattle.std.proofs.Common.{◌≡◌, true, T, sym, ◌∙◌, subst}
+use Rattle.std.proofs.Common.{◌≡◌, T, sym, ◌∙◌, subst}
 use lib.Ieee.{Float, Format, fits, of_bits, to_bits}
 use Rattle.root.specs.Root.{IsRoot, root_bits, root_of}
 use Rattle.root.specs.Exists.{root_exists, root_fits}
@@ -10,10 +10,10 @@ pub record Answered (f : Format) (v r : Float) : Type 0 where
   pub defined : IsRoot f v r
   pub only : (w : Float) → T (fits f w) → IsRoot f v w → w ≡ r
 
-pub answered : (f : Format) (v r : Float) → fits f v ≡ true → r ≡ of_bits f (root_bits f (to_bits f v)) → Answered f v r
+pub answered : (f : Format) (v r : Float) → T (fits f v) → r ≡ of_bits f (root_bits f (to_bits f v)) → Answered f v r
 unfolding root_of
 answered f v r h e =
-    let is = root_exists f v (subst T (sym h) tt) in
+    let is = root_exists f v h in
     record {
       value = e;
       defined = subst (IsRoot f v) (sym e) is;

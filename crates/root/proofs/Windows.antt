@@ -4,9 +4,7 @@ use lib.Count.{count_leading_zeros, leading_length}
 use lib.Ieee.{Format, binary32, binary64, prec, emax, hid, ones, size}
 use lib.Ieee.Digits.{size-lt, size-le}
 use lib.Ieee.Fits.{two}
-use Rattle.root.specs.declared.layout.Layout.{Layout}
-use Rattle.root.specs.Layout.{Lays}
-use Rattle.root.specs.Root.{whole_root, place, radicand_of, nearest_root, root_at}
+use Rattle.root.specs.Root.{whole_root, place, root_at}
 
 same_size : (m k : ℕ) → m < 2 ^ k → 2 ^ k ≤ 2 * m + 1 → k ≡ size m
 same_size m k h l = le_antisymm (le_of_suc-le-suc (lt_of_not-le short)) (size-le m k h)
@@ -58,23 +56,24 @@ pub bounds : (f : Format) → Bounds f
 bounds binary32 = record { digits = lit≤ tt; exponents = lit≤ tt; patterns = lit< tt }
 bounds binary64 = record { digits = lit≤ tt; exponents = lit≤ tt; patterns = lit< tt }
 
-module _ (f : Format) (l : Layout) (h : Lays f l) (m i z : ℕ) (e : z ≡ size m) where
-  pub place_is : i + z + l.rise ≡ place f m i
-  place_is = λ j. i + e j + h.rise j
+module _ (f : Format) (m i : ℕ) {z rise : ℕ} (e : z ≡ size m) (r : rise ≡ emax f - prec f - 1) where
+  place_is : i + z + rise ≡ place f m i
+  place_is = λ j. i + e j + r j
 
-  pub high_is : (i + z + l.rise) / 2 * l.hidden ≡ place f m i / 2 * hid f
-  high_is = λ j. place_is j / 2 * h.hidden j
+  pub high_is : {hidden : ℕ} → hidden ≡ hid f → (i + z + rise) / 2 * hidden ≡ place f m i / 2 * hid f
+  high_is h = λ j. place_is j / 2 * h j
 
-  pub whole_is : (w q : ℕ) → m < 2 ^ prec f → w ≡ m * 2 ^ (63 - size m + (i + z + l.rise) % 2)
-      → q ≡ (whole_root (suc l.digits) (w * 4 ^ suc l.digits / 2 ^ 64) + 1) / 2
-      → (i + z + l.rise) / 2 * l.hidden + q ≡ root_at f m i
-  whole_is w q few u v =
+  pub whole_is : {hidden digits w q : ℕ} → hidden ≡ hid f → digits ≡ prec f → m < 2 ^ prec f
+      → w ≡ m * 2 ^ (63 - size m + (i + z + rise) % 2)
+      → q ≡ (whole_root (suc digits) (w * 4 ^ suc digits / 2 ^ 64) + 1) / 2
+      → (i + z + rise) / 2 * hidden + q ≡ root_at f m i
+  whole_is {w = w} h d few u v =
       let p = prec f in
-      let w_is : w ≡ m * 2 ^ (63 - size m + place f m i % 2) = u ∙ ap (λ (x : ℕ). m * 2 ^ (63 - size m + x % 2)) place_is in
-      let n_is : w * 4 ^ suc p / 2 ^ 64 ≡ 4 * radicand_of f m i =
+      let w_is = u ∙ ap (λ (x : ℕ). m * 2 ^ (63 - size m + x % 2)) place_is in
+      let n_is =
       ap (λ (x : ℕ). x * 4 ^ suc p / 2 ^ 64) w_is
       ∙ window_radicand m p (place f m i % 2) few (omega (arith, two f)) (omega (arith, (bounds f).digits)) in
-      let q_is : q ≡ nearest_root p (radicand_of f m i) =
-      v ∙ ap (λ (d : ℕ). (whole_root (suc d) (w * 4 ^ suc d / 2 ^ 64) + 1) / 2) h.digits
+      let q_is =
+      v ∙ (λ j. (whole_root (suc (d j)) (w * 4 ^ suc (d j) / 2 ^ 64) + 1) / 2)
       ∙ ap (λ (n : ℕ). (whole_root (suc p) n + 1) / 2) n_is in
-      λ j. high_is j + q_is j
+      λ j. high_is h j + q_is j

@@ -1,4 +1,3 @@
-pub mod Layout
 pub mod Root
 pub mod Whole
 pub mod Only

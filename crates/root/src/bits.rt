@@ -2,10 +2,9 @@
 ghost use Rattle.std.specs.Prelude.{◌≡◌, ◌+◌, ◌-◌, ◌*◌, ◌/◌, ◌%◌, ◌^◌, ◌<◌, ◌≤◌};
 ghost use Rattle.std.specs.Float.Ieee.{prec, hid, ones, top, size};
 ghost use Rattle.root.specs.Root.{significand, scale, root_at, root_bits};
-ghost use Rattle.root.specs.Layout.{format_of};
 
 use crate::digits::nearest_root;
-use crate::layout::{Width, layout_of};
+use crate::format::Binary;
 
 // How many binary digits a number has.
 fn size_of(m: u64) -> u64
@@ -23,46 +22,43 @@ fn window_of(m: u64, place: u64) -> u64
 }
 
 // The pattern of the root of m × 2^(i - low).
-fn root_at(width: Width, m: u64, i: u64) -> u64
+fn root_at<F: Binary>(m: u64, i: u64) -> u64
     requires some { 0 < m }
-    requires few { m < 2 ^ prec (format_of width) }
-    requires fine { i + 2 ≤ ones (format_of width) }
-    ensures pattern { result ≡ root_at (format_of width) m i }
-    ensures finite { result < ones (format_of width) * hid (format_of width) }
+    requires few { m < 2 ^ prec F.format }
+    requires fine { i + 2 ≤ ones F.format }
+    ensures pattern { result ≡ root_at F.format m i }
+    ensures finite { result < ones F.format * hid F.format }
 {
-    let layout = layout_of(width);
-    let place = i + size_of(m) + layout.rise;
-    place / 2 * layout.hidden + nearest_root(window_of(m, place), layout.digits)
+    let place = i + size_of(m) + F::RISE;
+    place / 2 * F::HIDDEN + nearest_root(window_of(m, place), F::DIGITS)
 }
 
 // The pattern of the root of the number above zero that has the pattern b. Below the least normal number there is no leading digit,
 // and the exponent's field counts as 1.
-fn root_above_zero(width: Width, b: u64) -> u64
-    requires { (0 < b) × (b < ones (format_of width) * hid (format_of width)) }
-    ensures pattern { result ≡ root_at (format_of width) (significand (format_of width) b) (scale (format_of width) b) }
-    ensures finite { result < ones (format_of width) * hid (format_of width) }
+fn root_above_zero<F: Binary>(b: u64) -> u64
+    requires { (0 < b) × (b < ones F.format * hid F.format) }
+    ensures pattern { result ≡ root_at F.format (significand F.format b) (scale F.format b) }
+    ensures finite { result < ones F.format * hid F.format }
 {
-    let hidden = layout_of(width).hidden;
-    if b < hidden {
-        root_at(width, b, 0)
+    if b < F::HIDDEN {
+        root_at::<F>(b, 0)
     } else {
-        root_at(width, b % hidden + hidden, b / hidden - 1)
+        root_at::<F>(b % F::HIDDEN + F::HIDDEN, b / F::HIDDEN - 1)
     }
 }
 
 // The pattern of the root of the number that has the pattern b: a zero and infinity are their own root, and what is left has none.
-pub(crate) fn root_bits(width: Width, b: u64) -> u64
-    ensures pattern { result ≡ root_bits (format_of width) b }
-    ensures wide { b < 2 * top (format_of width) → result < 2 * top (format_of width) }
+pub(crate) fn root_bits<F: Binary>(b: u64) -> u64
+    ensures pattern { result ≡ root_bits F.format b }
+    ensures wide { b < 2 * top F.format → result < 2 * top F.format }
 {
-    let layout = layout_of(width);
-    if b % layout.sign == 0 {
+    if b % F::SIGN == 0 {
         b
-    } else if b < layout.infinity {
-        root_above_zero(width, b)
-    } else if b == layout.infinity {
+    } else if b < F::INFINITY {
+        root_above_zero::<F>(b)
+    } else if b == F::INFINITY {
         b
     } else {
-        layout.infinity + layout.hidden / 2
+        F::INFINITY + F::HIDDEN / 2
     }
 }

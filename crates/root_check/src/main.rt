@@ -3,67 +3,54 @@
 
 mod table;
 
-ghost use Rattle.std.specs.Prelude.{◌≡◌, ◌+◌, ◌*◌, ◌≤◌};
-ghost use Rattle.std.specs.Float.{binary32, binary64};
-ghost use Rattle.root_check.specs.Compare.{unlike, unlike_at, unlike_around, unlike_from, unlike_in, shuffled};
+ghost use Rattle.std.specs.Prelude.{◌≡◌, ◌≤◌};
+ghost use Rattle.std.specs.Float.{sqrt};
+ghost use Rattle.root_check.specs.Compare.{is_unlike, unlike_in, unlike_around, unlike_from, shuffled};
 
-use root::{root_f32, root_f64};
+use root::{Binary, root};
 use std::io;
-use std::num::{
-    f32_from_bits_with_nan, f32_to_bits_with_nan, f64_from_bits_with_nan, f64_to_bits_with_nan,
-};
 
-#[derive(Clone, Copy)]
-pub enum Kind {
-    Single,
-    Double,
+// A format whose root the library has too.
+trait Compared: Binary {
+    fn library_root(self) -> Self
+        ensures { Self.datum result ≡ sqrt Self.format (Self.datum self) };
 }
 
-fn unlike_f64(v: f64) -> u64
-    ensures { result ≡ unlike binary64 v }
-{
-    if f64_to_bits_with_nan(root_f64(v)) == f64_to_bits_with_nan(v.sqrt()) {
-        0
-    } else {
-        1
+impl Compared for f32 {
+    fn library_root(self) -> f32 {
+        self.sqrt()
     }
 }
 
-fn unlike_f32(v: f32) -> u64
-    ensures { result ≡ unlike binary32 v }
-{
-    if f32_to_bits_with_nan(root_f32(v)) == f32_to_bits_with_nan(v.sqrt()) {
-        0
-    } else {
-        1
+impl Compared for f64 {
+    fn library_root(self) -> f64 {
+        self.sqrt()
     }
 }
 
-fn unlike_at(kind: Kind, b: u64) -> u64
-    ensures count { result ≡ unlike_at kind b }
-    ensures one { result ≤ 1 }
+fn is_unlike<F: Compared>(v: F) -> bool
+    ensures { result ≡ is_unlike F.format (F.datum v) }
 {
-    match kind {
-        Kind::Single => unlike_f32(f32_from_bits_with_nan((b % 0x1_0000_0000) as u32)),
-        Kind::Double => unlike_f64(f64_from_bits_with_nan(b)),
-    }
+    root(v).to_pattern() != v.library_root().to_pattern()
 }
 
-fn unlike_around(kind: Kind, x: u64) -> u64
-    ensures count { result ≡ unlike_around kind x }
+fn unlike_in<F: Compared>(patterns: &[u64]) -> usize
+    ensures { result ≡ unlike_in F.format patterns.now }
+{
+    patterns
+        .iter()
+        .filter(|b| is_unlike(F::from_pattern(**b)))
+        .count()
+}
+
+fn unlike_around<F: Compared>(x: u64) -> usize
+    ensures count { result ≡ unlike_around F.format x }
     ensures few { result ≤ 3 }
 {
-    match kind {
-        Kind::Single => unlike_at(kind, x)
-            + (unlike_at(kind, x % 0x8000_0000) + unlike_at(kind, x % 0x80_0000)),
-        Kind::Double => {
-            unlike_at(kind, x)
-                + (unlike_at(kind, x % 0x8000_0000_0000_0000)
-                    + unlike_at(kind, x % 0x10_0000_0000_0000))
-        }
-    }
+    unlike_in::<F>(&[x, x % F::SIGN, x % F::HIDDEN])
 }
 
+#[tactic(auto, unfolding(crate::specs::Compare::shuffled))]
 fn shuffle(x: u64) -> u64
     ensures { result ≡ shuffled x }
 {
@@ -72,32 +59,22 @@ fn shuffle(x: u64) -> u64
     b ^ (b << 17)
 }
 
-fn unlike_from(kind: Kind, words: u32, seed: u64) -> u64
-    ensures { result ≡ unlike_from kind words seed }
+fn unlike_from<F: Compared>(words: u32, seed: u64) -> usize
+    ensures { result ≡ unlike_from F.format words seed }
 {
     let mut x = seed;
     let mut n = 0;
-    for i in 0..words {
-        n += unlike_around(kind, x);
+    for _ in 0..words {
+        n += unlike_around::<F>(x);
         x = shuffle(x);
-    }
-    n
-}
-
-fn unlike_in(kind: Kind, patterns: &[u64]) -> u64
-    ensures { result ≡ unlike_in kind patterns.now }
-{
-    let mut n = 0;
-    for b in patterns {
-        n += unlike_at(kind, *b);
     }
     n
 }
 
 fn main(rt: HostRuntime) -> io::Result<()> {
     let words = 100_000;
-    let doubles = unlike_in(Kind::Double, &table::DOUBLES);
-    let doubles_run = unlike_from(Kind::Double, words, 0x9E37_79B9_7F4A_7C15);
+    let doubles = unlike_in::<f64>(&table::DOUBLES);
+    let doubles_run = unlike_from::<f64>(words, 0x9E37_79B9_7F4A_7C15);
     println!(rt;
         "binary64: {} hard cases compared, {doubles} different",
         table::DOUBLES.len()
@@ -106,8 +83,8 @@ fn main(rt: HostRuntime) -> io::Result<()> {
         "binary64: {} seeded numbers compared, {doubles_run} different",
         3 * words
     )?;
-    let singles = unlike_in(Kind::Single, &table::SINGLES);
-    let singles_run = unlike_from(Kind::Single, words, 0x9E37_79B9_7F4A_7C15);
+    let singles = unlike_in::<f32>(&table::SINGLES);
+    let singles_run = unlike_from::<f32>(words, 0x9E37_79B9_7F4A_7C15);
     println!(rt;
         "binary32: {} hard cases compared, {singles} different",
         table::SINGLES.len()

@@ -1,13 +1,14 @@
 -- The laws, shown for both widths of floats and for complex numbers over any lawful real kind. Assumes nothing.
 use Rattle.std.specs.Prelude.{◌≡◌, true, false, not, ◌&&◌, T, refl, Float}
 use Rattle.std.proofs.Common.{sym, ap, ◌∙◌, subst}
-use Rattle.std.specs.Float.Ieee.{add, fits}
+use Rattle.std.specs.Float.Ieee.{neg, add, fits, of_bits, of_fields, odd}
+use lib.Count.{count_trailing_zeros}
 use Rattle.std.specs.Float.Ieee.Fits.{and_i, and_l, and_r}
-use Rattle.std.specs.Float.{float_is_finite, is_sign_negative, float_with_sign, Format, nan, inf, fin}
+use Rattle.std.specs.Float.{float_is_finite, is_sign_negative, float_with_sign, Format, binary32, binary64, nan, inf, fin}
 use Rattle.scalar.specs.Ops.{Ops, RealOps, LargerLaws, RealLaws, SizeLaws}
 use Rattle.scalar.specs.FloatLaws.{is_size, most_size, most_comm, most_assoc, most_idem, most_zero}
 use Rattle.scalar.specs.FloatLaws.{zero_bits, zero_size, abs_neg, add_size, add_zero_zero}
-use Rattle.scalar.specs.FloatOps.{zero_of, float_ops, float_real}
+use Rattle.scalar.specs.FloatOps.{zero_of, two_of, minus_two_of, float_ops, float_real}
 use Rattle.scalar.specs.ComplexOps.{complex_ops}
 
 size_finite : (f : Format) (x : Float) → T (is_size f x) → T (float_is_finite x)
@@ -55,6 +56,11 @@ float_laws f = record {
   sum_size = add_size f;
   summands = summands_of f;
 }
+
+pub opposite_two : (f : Format) → neg (two_of f) ≡ minus_two_of f
+unfolding neg of_bits of_fields odd count_trailing_zeros
+opposite_two binary32 = refl
+opposite_two binary64 = refl
 
 pub float_sizes : (f : Format) → SizeLaws (float_ops f) (float_real f)
 float_sizes f = record { conjugate = λ x. refl; zero_size = zero_is_size f; zero_neutral = most_zero f }

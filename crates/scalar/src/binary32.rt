@@ -1,8 +1,9 @@
 // The kind binary32: each operation of `f32` rounds once, to nearest, ties to even.
-ghost use Rattle.std.specs.Prelude.{◌≡◌, false};
+ghost use Rattle.std.specs.Prelude.{◌≡◌, false, refl};
 ghost use Rattle.std.specs.Float.{float_with_sign, binary32};
-ghost use Rattle.scalar.specs.FloatOps.{float_ops, float_real};
-ghost use Rattle.scalar.specs.Lawful.{float_larger};
+ghost use Rattle.std.specs.Float.Ieee.{neg};
+ghost use Rattle.scalar.specs.FloatOps.{float_ops, float_real, two_of, half_of};
+ghost use Rattle.scalar.specs.Lawful.{float_larger, opposite_two};
 
 use crate::kinds::{Arithmetic, RealScalar, Scalar};
 
@@ -90,9 +91,21 @@ impl RealScalar for f32 {
 
     const MINUS_TWO: f32 = -2.0;
 
+    ghost TWO = { two_of binary32 };
+
+    ghost HALF = { half_of binary32 };
+
+    ghost MINUS_TWO = { neg (two_of binary32) };
+
     ghost real = { float_real binary32 };
 
     ghost larger_of = { float_larger binary32 };
+
+    ghost two_is = { refl };
+
+    ghost half_is = { refl };
+
+    ghost minus_two_is = { opposite_two binary32 };
 
     fn literal_two() -> f32 {
         Self::TWO
@@ -119,7 +132,7 @@ impl RealScalar for f32 {
     }
 
     fn sqrt(self) -> f32 {
-        root::root_f32(self)
+        root::root(self)
     }
 
     // The library's `max` leaves open which of two zeros it gives.

@@ -1,8 +1,9 @@
 // The kind binary64: each operation of `f64` rounds once, to nearest, ties to even.
-ghost use Rattle.std.specs.Prelude.{◌≡◌, false};
+ghost use Rattle.std.specs.Prelude.{◌≡◌, false, refl};
 ghost use Rattle.std.specs.Float.{float_with_sign, binary64};
-ghost use Rattle.scalar.specs.FloatOps.{float_ops, float_real};
-ghost use Rattle.scalar.specs.Lawful.{float_larger};
+ghost use Rattle.std.specs.Float.Ieee.{neg};
+ghost use Rattle.scalar.specs.FloatOps.{float_ops, float_real, two_of, half_of};
+ghost use Rattle.scalar.specs.Lawful.{float_larger, opposite_two};
 
 use crate::kinds::{Arithmetic, RealScalar, Scalar};
 
@@ -90,9 +91,21 @@ impl RealScalar for f64 {
 
     const MINUS_TWO: f64 = -2.0;
 
+    ghost TWO = { two_of binary64 };
+
+    ghost HALF = { half_of binary64 };
+
+    ghost MINUS_TWO = { neg (two_of binary64) };
+
     ghost real = { float_real binary64 };
 
     ghost larger_of = { float_larger binary64 };
+
+    ghost two_is = { refl };
+
+    ghost half_is = { refl };
+
+    ghost minus_two_is = { opposite_two binary64 };
 
     fn literal_two() -> f64 {
         Self::TWO
@@ -119,7 +132,7 @@ impl RealScalar for f64 {
     }
 
     fn sqrt(self) -> f64 {
-        root::root_f64(self)
+        root::root(self)
     }
 
     // The library's `max` leaves open which of two zeros it gives.

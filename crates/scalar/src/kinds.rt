@@ -64,6 +64,12 @@ pub trait RealScalar: Arithmetic<Part = Self> {
 
     const MINUS_TWO: Self;
 
+    ghost TWO: { Self };
+
+    ghost HALF: { Self };
+
+    ghost MINUS_TWO: { Self };
+
     ghost real: { RealOps Self };
 
     // The constants, read through functions so that generic code knows their meaning.
@@ -101,6 +107,12 @@ pub trait RealScalar: Arithmetic<Part = Self> {
         ensures laws { RealLaws Self.Arithmetic.ops real };
 
     ghost larger_of: { LargerLaws real };
+
+    ghost two_is: { TWO ≡ real.two };
+
+    ghost half_is: { HALF ≡ real.half };
+
+    ghost minus_two_is: { MINUS_TWO ≡ real.minus_two };
 }
 
 // A number kind: it names the real kind that its sizes and values belong to.

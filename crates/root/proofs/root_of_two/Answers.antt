@@ -6,8 +6,8 @@ use Rattle.root.proofs.root_of_two.Goals as goal
 
 pub returns : goal.returns
 returns c =
-    let e : c.f64_to_bits_with_nan.result ≡ 0x3FF6A09E667F3BCD =
-    c.f64_to_bits_with_nan.ensures
-    ∙ ap (to_bits binary64) (c.root_f64.ensures.value ∙ ap (root_of binary64) c.two.ensures.value ∙ root_of_two)
+    let e : c.to_pattern.result ≡ 0x3FF6A09E667F3BCD =
+    c.to_pattern.ensures.pattern
+    ∙ ap (to_bits binary64) (c.root.ensures.value ∙ ap (root_of binary64) c.two.ensures.value ∙ root_of_two)
     ∙ back in
     record { pattern = e; value = root_of_two ∙ ap (of_bits binary64) (sym e) }
