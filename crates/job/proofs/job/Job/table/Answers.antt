@@ -1,7 +1,7 @@
 use Rattle.std.proofs.Common.{◌≡◌, [], ◌∷◌, ◌++◌, vec_items}
 use Rattle.std.proofs.lemmas.List.{map_more, take_all}
 use Rattle.job.specs.Typed.{entry_of}
-use Rattle.job.proofs.calls.Job+T+T+Real.table.Goals as goal
+use Rattle.job.proofs.job.Job.table.Goals as goal
 
 pub loop-cell-preserved : goal.loop-cell-preserved
 loop-cell-preserved g c =
