@@ -58,7 +58,7 @@ module _ {C R : Type 0} (ops : Ops C R) (real : RealOps R) where
   module _ (laws : LargerLaws real) (sizes : SizeLaws ops real) where
     -- a number typed into a free place on or below the diagonal
     pub written_gathered : (j : Typed C R) (row column : ℕ) (x : C) → column ≤ row → row < j.side →
-        is_typed j row column ≡ false → HasSize ops real x →
+        get_or j.cells (place j.side row column) None ≡ None → HasSize ops real x →
         Gathered ops real j → Gathered ops real (written ops real j row column x)
     written_gathered j row column x lower inside free size h = record {
       whole = placed_whole ops j.side j.cells row column x ∙ h.whole;
@@ -69,9 +69,6 @@ module _ {C R : Type 0} (ops : Ops C R) (real : RealOps R) where
           sym (ap (largest_size ops real) (placed_entries ops j.side j.cells row column x) ∙ grown);
     }
       where
-        none : get_or j.cells (place j.side row column) None ≡ None
-        none = untyped _ free
-
         at_in : place j.side row column < length j.cells
         at_in = at_inside ops j.side j.cells row column x h.whole lower inside
 
@@ -79,7 +76,7 @@ module _ {C R : Type 0} (ops : Ops C R) (real : RealOps R) where
         above_in = above_inside ops j.side j.cells row column x h.whole lower inside
 
         above_none : get_or j.cells (place j.side column row) None ≡ None
-        above_none = above_free ops j.side j.cells row column x h.whole lower inside h.mirrored none
+        above_none = above_free ops j.side j.cells row column x h.whole lower inside h.mirrored free
 
         conj_size : HasSize ops real (ops.conj x)
         conj_size = rw (sizes.conjugate x) size
@@ -99,7 +96,7 @@ module _ {C R : Type 0} (ops : Ops C R) (real : RealOps R) where
             (rw (length-map j.cells (entry_of ops)) above_in)
             (rw (length-map j.cells (entry_of ops)) at_in)
             (get_or-map (entry_of ops) j.cells (place j.side column row) None ops.zero above_in ∙ ap (entry_of ops) above_none)
-            (get_or-map (entry_of ops) j.cells (place j.side row column) None ops.zero at_in ∙ ap (entry_of ops) none)
+            (get_or-map (entry_of ops) j.cells (place j.side row column) None ops.zero at_in ∙ ap (entry_of ops) free)
 
     pub putting_gathered : (j : Typed C R) (row column : ℕ) (x : C) →
         (T (real.is_finite (ops.size x)) → HasSize ops real x) →
@@ -109,7 +106,7 @@ module _ {C R : Type 0} (ops : Ops C R) (real : RealOps R) where
         (λ lower. kept (Gathered ops real) (real.is_finite (ops.size x)) _ _
         (λ finite. kept (Gathered ops real) (is_typed j row column) _ _ (λ _. h)
         (λ free. let two = and_parts (leb column row) (ltb row j.side) lower in
-        written_gathered j row column x (leb-true column row two.0) (ltb-true row j.side two.1) free
+        written_gathered j row column x (leb-true column row two.0) (ltb-true row j.side two.1) (untyped _ free)
         (sized (rw finite tt)) h))
         (λ _. h))
         (λ _. h)

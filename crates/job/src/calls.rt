@@ -23,14 +23,6 @@ fn number_of<T: Scalar>(cell: Option<T>) -> T
     cell.unwrap_or(T::zero())
 }
 
-fn push_number<T: Scalar>(table: &mut Vec<T>, cell: Option<T>) -> Result<(), AllocError>
-    ensures pushed { OnOk result (table.new.items ≡
-        table.old.items ++ (entry_of T.Arithmetic.ops cell ∷ [])) }
-{
-    table.push(number_of(cell))?;
-    Ok(())
-}
-
 // The cells of a table in which nothing was typed.
 fn untyped<T: Scalar>(heap: Global, side: usize) -> Result<Vec<Option<T>>, AllocError>
     requires { side ≤ 32 }
@@ -105,10 +97,6 @@ impl<T: Scalar> Job<T> {
     pub fn table(&self, heap: Global) -> Result<Vec<T>, AllocError>
         ensures table { IfOk result (λ v. v.items ≡ entries T.Arithmetic.ops (typed self.now)) }
     {
-        let mut table = Vec::new(heap);
-        for cell in self.cells.iter() {
-            push_number(&mut table, *cell)?;
-        }
-        Ok(table)
+        self.cells.iter().map(|cell| number_of(*cell)).collect(heap)
     }
 }

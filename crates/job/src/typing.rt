@@ -1,9 +1,8 @@
 // Typing into a table. A refused command changes nothing.
-ghost use Rattle.std.specs.Prelude.{◌≡◌, ◌<◌, ◌≤◌, is_none, cond, false, Some, Ok, Err};
-ghost use Rattle.job.specs.Gathered.{HasSize};
+ghost use Rattle.std.specs.Prelude.{◌≡◌, is_none, cond, Some, Ok, Err};
 ghost use Rattle.job.specs.Rejections.{reported};
 ghost use Rattle.job.specs.Shown.{typed};
-ghost use Rattle.job.specs.Typed.{is_typed, limiting, putting, tolerating, written};
+ghost use Rattle.job.specs.Typed.{limiting, putting, tolerating};
 ghost use Rattle.job.specs.declared.rejected.Rejected.TheVariants.{Twice};
 
 use crate::checks::{is_limit, is_lower, is_tolerance, place_of};
@@ -25,30 +24,6 @@ fn give<V: Copy>(slot: &mut Option<V>, value: V) -> Result<(), Rejected>
 }
 
 impl<T: Scalar> Job<T> {
-    fn is_typed(&self, row: usize, column: usize) -> bool
-        requires row { row < self.now.side }
-        requires column { column < self.now.side }
-        ensures value { result ≡ is_typed (typed self.now) row column }
-    {
-        self.cells[place_of(self.side, row, column)].is_some()
-    }
-
-    // The conjugate goes above the diagonal first, so that on the diagonal the number stands as typed.
-    fn write(&mut self, row: usize, column: usize, x: T)
-        requires row { row < self.old.side }
-        requires lower { column ≤ row }
-        requires free { is_typed (typed self.old) row column ≡ false }
-        requires sized { HasSize T.Arithmetic.ops T.Real.RealScalar.real x }
-        ensures after { typed self.new ≡
-            written T.Arithmetic.ops T.Real.RealScalar.real (typed self.old) row column x }
-    {
-        let above = place_of(self.side, column, row);
-        let at = place_of(self.side, row, column);
-        self.cells[above] = Some(x.conjugate());
-        self.cells[at] = Some(x);
-        self.largest = self.largest.larger(x.size());
-    }
-
     // A number typed at a row and a column.
     pub fn put(&mut self, row: usize, column: usize, x: T) -> Result<(), Rejected>
         ensures outcome { (reported result, typed self.new) ≡
@@ -57,13 +32,19 @@ impl<T: Scalar> Job<T> {
         if !is_lower(self.side, row, column) {
             return Err(Rejected::Operand);
         }
-        if !x.size().is_finite() {
+        let size = x.size();
+        if !size.is_finite() {
             return Err(Fault::Entry { row, column }.into());
         }
-        if self.is_typed(row, column) {
+        let at = place_of(self.side, row, column);
+        if self.cells[at].is_some() {
             return Err(Rejected::Twice);
         }
-        self.write(row, column, x);
+        // The conjugate goes above the diagonal first, so that on the diagonal the number stands as typed.
+        let above = place_of(self.side, column, row);
+        self.cells[above] = Some(x.conjugate());
+        self.cells[at] = Some(x);
+        self.largest = self.largest.larger(size);
         Ok(())
     }
 
