@@ -1,4 +1,5 @@
 pub mod Gathered
+pub mod Once
 pub mod Opening
 pub mod Rejections
 pub mod Shown

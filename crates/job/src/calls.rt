@@ -1,6 +1,6 @@
 // Opening a table, and reading it.
-ghost use Rattle.std.specs.Prelude.{◌≡◌, ◌*◌, ◌≤◌, true, [], ◌∷◌, ◌++◌, replicate, IfOk, None, vec_len, OnOk};
-ghost use Rattle.job.specs.Gathered.{Gathered, largest_of};
+ghost use Rattle.std.specs.Prelude.{◌≡◌, ◌*◌, ◌≤◌, true, replicate, IfOk, None};
+ghost use Rattle.job.specs.Gathered.{largest_of};
 ghost use Rattle.job.specs.Opening.{had_room, opened, opening};
 ghost use Rattle.job.specs.Shown.{typed};
 ghost use Rattle.job.specs.Typed.{entries, entry_at, entry_of, is_limit, is_side, is_tolerance};
@@ -18,7 +18,7 @@ const LIMIT: u32 = 1000;
 
 // A number that was not typed is zero.
 fn number_of<T: Scalar>(cell: Option<T>) -> T
-    ensures value { result ≡ entry_of T.Arithmetic.ops cell }
+    ensures value { result ≡ entry_of T.ops cell }
 {
     cell.unwrap_or(T::zero())
 }
@@ -26,8 +26,7 @@ fn number_of<T: Scalar>(cell: Option<T>) -> T
 // The cells of a table in which nothing was typed.
 fn untyped<T: Scalar>(heap: Global, side: usize) -> Result<Vec<Option<T>>, AllocError>
     requires { side ≤ 32 }
-    ensures cells { IfOk result (λ v. v.items ≡ replicate (side * side) None) }
-    ensures len { IfOk result (λ v. vec_len v ≡ side * side) }
+    ensures { IfOk result (λ v. v.items ≡ replicate (side * side) None) }
 {
     let mut cells = Vec::new(heap);
     cells.resize(side * side, None)?;
@@ -37,7 +36,7 @@ fn untyped<T: Scalar>(heap: Global, side: usize) -> Result<Vec<Option<T>>, Alloc
 impl<T: Scalar> Job<T> {
     // A table of zeros, with tolerance 2^-52 and limit 1000.
     pub fn open(heap: Global, side: usize) -> Result<Job<T>, Unopened>
-        ensures outcome { opening result ≡ opened T.Arithmetic.ops side (had_room result) }
+        ensures outcome { opening result ≡ opened T.ops side (had_room result) }
     {
         if !is_side(side) {
             return Err(Unopened::Operand);
@@ -77,14 +76,14 @@ impl<T: Scalar> Job<T> {
     // The largest size gathered: that of the whole table, entry by entry in column order.
     pub fn largest(&self) -> T::Real
         ensures value { result ≡ (typed self.now).largest }
-        ensures gathered { result ≡ largest_of T.Arithmetic.ops T.Real.RealScalar.real (typed self.now) }
+        ensures gathered { result ≡ largest_of T.ops T.Real.real (typed self.now) }
     {
         self.largest
     }
 
     // The number at a row and a column: zero where none was typed, and outside.
     pub fn entry(&self, row: usize, column: usize) -> T
-        ensures value { result ≡ entry_at T.Arithmetic.ops (typed self.now) row column }
+        ensures value { result ≡ entry_at T.ops (typed self.now) row column }
     {
         if row < self.side && column < self.side {
             number_of(self.cells[place_of(self.side, row, column)])
@@ -95,8 +94,8 @@ impl<T: Scalar> Job<T> {
 
     // The whole table, column by column.
     pub fn table(&self, heap: Global) -> Result<Vec<T>, AllocError>
-        ensures table { IfOk result (λ v. v.items ≡ entries T.Arithmetic.ops (typed self.now)) }
+        ensures table { IfOk result (λ v. v.items ≡ entries T.ops (typed self.now)) }
     {
-        self.cells.iter().map(|cell| number_of(*cell)).collect(heap)
+        self.cells.iter().copied().map(number_of).collect(heap)
     }
 }

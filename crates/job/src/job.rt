@@ -1,7 +1,8 @@
 // The table itself. Its invariant is that of a lawful table: no other job can be built.
 ghost use Rattle.std.specs.Prelude.{◌≡◌, ◌*◌, ◌≤◌, IsTrue, vec_len};
 ghost use Rattle.std.specs.Option.{ForSome};
-ghost use Rattle.job.specs.Gathered.{Gathered, Gathered-prop};
+ghost use Rattle.job.specs.Gathered.{Gathered};
+ghost use Rattle.job.specs.Once.{gathered_once};
 ghost use Rattle.job.specs.Typed.{is_limit, is_tolerance, table_of};
 
 use scalar::{Arithmetic, RealScalar, Scalar};
@@ -20,5 +21,6 @@ pub struct Job<T: Scalar> {
     ghost whole: { vec_len cells ≡ side * side },
     ghost tolerable: { ForSome tolerance (λ t. IsTrue (is_tolerance t)) },
     ghost limited: { ForSome limit (λ n. IsTrue (is_limit n)) },
-    pub ghost gathered: { Gathered T.Arithmetic.ops T.Real.RealScalar.real (table_of side cells.items tolerance limit largest) } by { Gathered-prop T.code T.Real.code T.Arithmetic.ops T.Real.RealScalar.real (table_of side cells.items tolerance limit largest) },
+    pub ghost gathered: { Gathered T.ops T.Real.real
+        (table_of side cells.items tolerance limit largest) } by { gathered_once T.code T.Real.code },
 }

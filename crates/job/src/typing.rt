@@ -26,8 +26,7 @@ fn give<V: Copy>(slot: &mut Option<V>, value: V) -> Result<(), Rejected>
 impl<T: Scalar> Job<T> {
     // A number typed at a row and a column.
     pub fn put(&mut self, row: usize, column: usize, x: T) -> Result<(), Rejected>
-        ensures outcome { (reported result, typed self.new) ≡
-            putting T.Arithmetic.ops T.Real.RealScalar.real (typed self.old) row column x }
+        ensures outcome { (reported result, typed self.new) ≡ putting T.ops T.Real.real (typed self.old) row column x }
     {
         if !is_lower(self.side, row, column) {
             return Err(Rejected::Operand);
