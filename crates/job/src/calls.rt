@@ -59,6 +59,7 @@ impl<T: Scalar> Job<T> {
         self.side
     }
 
+    #[tactic(auto, using(crate::proofs::Starts::tolerance_lawful))]
     pub fn tolerance(&self) -> f64
         ensures value { result ≡ (typed self.now).tolerance }
         ensures lawful { is_tolerance result ≡ true }

@@ -1,8 +1,8 @@
 // Typing into a table. A refused command changes nothing.
-ghost use Rattle.std.specs.Prelude.{◌≡◌, is_none, cond, Some, Ok, Err};
+ghost use Rattle.std.specs.Prelude.{◌≡◌, ◌*◌, ◌<◌, ◌≤◌, is_none, cond, Some, Ok, Err, length};
 ghost use Rattle.job.specs.Rejections.{reported};
 ghost use Rattle.job.specs.Shown.{typed};
-ghost use Rattle.job.specs.Typed.{limiting, putting, tolerating};
+ghost use Rattle.job.specs.Typed.{limiting, placed, putting, tolerating};
 ghost use Rattle.job.specs.declared.rejected.Rejected.TheVariants.{Twice};
 
 use crate::checks::{is_limit, is_lower, is_tolerance, place_of};
@@ -23,6 +23,18 @@ fn give<V: Copy>(slot: &mut Option<V>, value: V) -> Result<(), Rejected>
     Ok(())
 }
 
+// The conjugate goes above the diagonal first, so that on the diagonal the number stands as typed.
+fn write<T: Scalar>(cells: &mut [Option<T>], side: usize, row: usize, column: usize, x: T)
+    requires few { side ≤ 32 }
+    requires whole { length cells.old ≡ side * side }
+    requires row { row < side }
+    requires column { column < side }
+    ensures after { cells.new ≡ placed T.ops side cells.old row column x }
+{
+    cells[place_of(side, column, row)] = Some(x.conjugate());
+    cells[place_of(side, row, column)] = Some(x);
+}
+
 impl<T: Scalar> Job<T> {
     // A number typed at a row and a column.
     pub fn put(&mut self, row: usize, column: usize, x: T) -> Result<(), Rejected>
@@ -35,14 +47,10 @@ impl<T: Scalar> Job<T> {
         if !size.is_finite() {
             return Err(Fault::Entry { row, column }.into());
         }
-        let at = place_of(self.side, row, column);
-        if self.cells[at].is_some() {
+        if self.cells[place_of(self.side, row, column)].is_some() {
             return Err(Rejected::Twice);
         }
-        // The conjugate goes above the diagonal first, so that on the diagonal the number stands as typed.
-        let above = place_of(self.side, column, row);
-        self.cells[above] = Some(x.conjugate());
-        self.cells[at] = Some(x);
+        write(&mut self.cells, self.side, row, column, x);
         self.largest = self.largest.larger(size);
         Ok(())
     }
