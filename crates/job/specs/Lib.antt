@@ -1,4 +1,6 @@
 pub mod Gathered
+pub mod Once
 pub mod Opening
 pub mod Rejections
+pub mod Shown
 pub mod Typed
