@@ -25,7 +25,7 @@ fn together<T: Scalar, A: Keeper<T>, B: Keeper<T>>(first: &A, second: &B) -> usi
 fn fit<T: Scalar, A: Keeper<T>, B: Keeper<T>>(first: &A, second: &B) -> bool
     ensures { result ≡ both_fit (A.Keeper.kept first.now) (B.Keeper.kept second.now) }
 {
-    first.width() == second.width() && together(first, second) <= 65_536
+    Both::<A, B>::check::<T>(first, second).is_ok()
 }
 
 fn read_either<T: Scalar, A: Keeper<T>, B: Keeper<T>>(
@@ -71,12 +71,12 @@ impl<A, B> Both<A, B> {
             both_check (A.Keeper.kept first.now) (B.Keeper.kept second.now) }
     {
         if first.width() != second.width() {
-            Err(Fault::Width)
-        } else if together(first, second) <= 65_536 {
-            Ok(())
-        } else {
-            Err(Fault::Length)
+            return Err(Fault::Width);
         }
+        if together(first, second) > 65_536 {
+            return Err(Fault::Length);
+        }
+        Ok(())
     }
 
     // Refuses nothing: what is held against the check counts as width 0 and no rows.
@@ -124,19 +124,18 @@ impl<T: Scalar, A: Keeper<T>, B: Keeper<T>> Keeper<T> for Both<A, B> {
         }
     }
 
+    #[tactic(auto, using(crate::proofs::Held::either_cell_is))]
     fn read(&self, row: usize, column: usize) -> Result<T, Fault> {
-        if fit(&self.first, &self.second) {
-            read_either(&self.first, &self.second, row, column)
-        } else {
-            Err(Fault::Column)
+        if !fit(&self.first, &self.second) {
+            return Err(Fault::Column);
         }
+        read_either(&self.first, &self.second, row, column)
     }
 
     fn turn(&mut self, turn: &Turn<T::Real>) -> Result<(), Fault> {
-        if fit(&self.first, &self.second) {
-            turn_each(&mut self.first, &mut self.second, turn)
-        } else {
-            Err(Fault::Column)
+        if !fit(&self.first, &self.second) {
+            return Err(Fault::Column);
         }
+        turn_each(&mut self.first, &mut self.second, turn)
     }
 }

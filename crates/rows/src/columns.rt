@@ -36,6 +36,7 @@ pub(crate) fn rotate<T: Scalar>(cells: &mut [T], width: usize, count: usize, tur
     let u = t.conjugate().neg();
     let x = turn.column * count;
     let y = x + count;
+    // By index: a proof knows nothing of what a `zip` of two `iter_mut`s has written (goal `returns`).
     for r in 0..count {
         turn_entries(cells, x + r, y + r, turn.c, t, u);
     }

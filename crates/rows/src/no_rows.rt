@@ -25,11 +25,10 @@ impl NoRows {
     pub fn check(width: usize) -> Result<(), Fault>
         ensures answer { answered result ≡ no_rows_check width }
     {
-        if width_fits(width) {
-            Ok(())
-        } else {
-            Err(Fault::Side)
+        if !width_fits(width) {
+            return Err(Fault::Side);
         }
+        Ok(())
     }
 
     // Refuses nothing: against the check it has width 0.
@@ -60,11 +59,9 @@ impl<T: Scalar> Keeper<T> for NoRows {
     }
 
     fn turn(&mut self, turn: &Turn<T::Real>) -> Result<(), Fault> {
-        let width = self.width;
-        if turn.column < width && turn.column + 1 < width {
-            Ok(())
-        } else {
-            Err(Fault::Column)
+        if !turn.is_inside(self.width) {
+            return Err(Fault::Column);
         }
+        Ok(())
     }
 }

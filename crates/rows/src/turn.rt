@@ -1,5 +1,5 @@
 // The turn of the columns `column` and `column` + 1 by the cosine c and the sine s.
-ghost use Rattle.std.specs.Prelude.{◌≡◌};
+ghost use Rattle.std.specs.Prelude.{◌≡◌, ◌+◌, nat_lt};
 ghost use Rattle.rows.specs.Turns.{sine};
 
 use crate::direction::Direction;
@@ -11,6 +11,15 @@ pub struct Turn<R: Copy> {
     pub c: R,
     pub s: R,
     pub direction: Direction,
+}
+
+impl<R: Copy> Turn<R> {
+    // Whether both columns lie inside the width.
+    pub(crate) fn is_inside(&self, width: usize) -> bool
+        ensures { result ≡ nat_lt (self.now.column + 1) width }
+    {
+        self.column < width.saturating_sub(1)
+    }
 }
 
 // The embedded sine, or its negative when the direction is back. A method with `T: Scalar<Real = R>` is not inferred.
