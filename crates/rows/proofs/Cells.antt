@@ -1,7 +1,8 @@
 -- Reads of a row and of a list of rows. Assumes nothing.
-use Rattle.std.proofs.Common.{◌≡◌, ℕ, zero, suc, ◌+◌, ◌-◌, ◌*◌, ◌<◌, ◌≤◌, List, [], ◌∷◌, ◌++◌, length, get_or, sym, refl, ap, ◌∙◌, le_of_suc-le-suc, not-suc-le-zero, zero-add, arith}
+use Rattle.std.proofs.Common.{◌≡◌, ℕ, zero, suc, ◌+◌, ◌-◌, ◌*◌, ◌<◌, ◌≤◌, ◌⊎◌, List, [], ◌∷◌, ◌++◌, length, get_or, sym, refl, ⊎_elim, ap, ◌∙◌, le_of_suc-le-suc, not-suc-le-zero, zero-add, arith}
 use native.Mathlib.Nat.{sub-zero, suc-sub-suc}
 use Rattle.std.proofs.lemmas.List.FromFn.{length-map-range_with_len, get_or-map-range_with_len}
+use Rattle.std.proofs.lemmas.Bool.{cases_lt}
 use Rattle.rows.specs.Keepers.{given, outside, read_at, cell_at}
 use Rattle.rows.specs.Makes.{row_of, rows_of}
 
@@ -52,12 +53,11 @@ module _ {C : Type 0} (d : C) (w n : ℕ) (cells : List C) where
       cell_row r i hr ∙ read_at_in (row_of d w n cells r) i d (omega arith) ∙
       ap given (get_or-map-range_with_len (λ j. get_or cells (r + j * n) d) 0 w i i d hi (zero-add i))
 
-  pub row_past : (r i : ℕ) → n ≤ r → cell_at (rows_of d w n cells) r i ≡ outside
-  row_past r i h =
+  pub cell_past : (r i : ℕ) → (n ≤ r) ⊎ (w ≤ i) → cell_at (rows_of d w n cells) r i ≡ outside
+  cell_past r i =
       let all : length (rows_of d w n cells) ≡ n = length-map-range_with_len (row_of d w n cells) 0 n in
-      cell_at_past (rows_of d w n cells) r i (omega arith)
-
-  pub column_past : (r i : ℕ) → r < n → w ≤ i → cell_at (rows_of d w n cells) r i ≡ outside
-  column_past r i hr hi =
-      let all : length (row_of d w n cells r) ≡ w = length-map-range_with_len _ 0 w in
-      cell_row r i hr ∙ read_at_past (row_of d w n cells r) i (omega arith)
+      let whole : length (row_of d w n cells r) ≡ w = length-map-range_with_len _ 0 w in
+      let beyond : n ≤ r → cell_at (rows_of d w n cells) r i ≡ outside = λ h. cell_at_past (rows_of d w n cells) r i (omega arith) in
+      ⊎_elim beyond
+      (λ (h : w ≤ i).
+      ⊎_elim (λ (k : r < n). cell_row r i k ∙ read_at_past (row_of d w n cells r) i (omega arith)) beyond (cases_lt r n))

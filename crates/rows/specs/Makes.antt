@@ -1,5 +1,5 @@
 -- The keepers that are made: what a first call checks, and what is held. Definitions only.
-use Rattle.std.specs.Prelude.{ℕ, ◌+◌, ◌-◌, ◌*◌, Bool, cond, ◌&&◌, List, [], ◌++◌, map, length, get_or, set, ◌==◌, nat_le, nat_lt, slice_index_or, slice_set}
+use Rattle.std.specs.Prelude.{ℕ, ◌+◌, ◌-◌, ◌*◌, Bool, cond, ◌&&◌, ◌||◌, List, [], ◌++◌, map, length, get_or, set, ◌==◌, nat_le, nat_lt, slice_index_or, slice_set}
 use Rattle.std.specs.List.{range_with_len}
 use Rattle.scalar.specs.Ops.{Ops}
 use Rattle.fault.specs.Refusals.{refused}
@@ -37,6 +37,10 @@ count_fits count = nat_le count 512
 
 abbrev pub all_rows_fit : ℕ → ℕ → ℕ → Bool
 all_rows_fit width count length = (width_fits width && count_fits count) && length == width * count
+
+-- the counts that a keeper of a slice has: they fit, or are width 0 and no rows
+abbrev pub counts_kept : ℕ → ℕ → ℕ → Bool
+counts_kept width count length = all_rows_fit width count length || (width == 0 && count == 0)
 
 abbrev pub all_rows_check : ℕ → ℕ → ℕ → Answer (Unit {0})
 all_rows_check width count length =

@@ -1,13 +1,13 @@
 // A keeper of rows in a slice that is handed in, column by column.
-ghost use Rattle.std.specs.Prelude.{◌≡◌};
+ghost use Rattle.std.specs.Prelude.{◌≡◌, ◌+◌, ◌*◌, true, length};
 ghost use Rattle.rows.specs.Keepers.{answered};
-ghost use Rattle.rows.specs.Makes.{all_rows, all_rows_check, all_rows_fit};
+ghost use Rattle.rows.specs.Makes.{all_rows, all_rows_check, counts_kept};
 ghost use Rattle.rows.specs.Sounds.{all_rows_sound};
 
-use crate::columns::{entry, rotate, sine_of};
-use crate::direction::Direction;
+use crate::columns::{entry, rotate};
 use crate::keeper::Keeper;
 use crate::no_rows::width_fits;
+use crate::turn::Turn;
 use fault::Fault;
 use scalar::{Arithmetic, Scalar};
 
@@ -16,31 +16,20 @@ pub struct AllRows<'a, T> {
     width: usize,
     count: usize,
     cells: &'a mut [T],
-}
-
-fn fits(width: usize, count: usize, length: usize) -> bool
-    ensures { result ≡ all_rows_fit width count «length» }
-{
-    if width_fits(width) && count <= 512 {
-        length == width * count
-    } else {
-        false
-    }
+    ghost counts: { counts_kept width count (length cells.now) ≡ true },
 }
 
 impl<'a, T: Scalar> AllRows<'a, T> {
     pub fn check(width: usize, count: usize, length: usize) -> Result<(), Fault>
         ensures answer { answered result ≡ all_rows_check width count «length» }
     {
-        if width_fits(width) && count <= 512 {
-            if length == width * count {
-                Ok(())
-            } else {
-                Err(Fault::Length)
-            }
-        } else {
-            Err(Fault::Side)
+        if !width_fits(width) || count > 512 {
+            return Err(Fault::Side);
         }
+        if length != width * count {
+            return Err(Fault::Length);
+        }
+        Ok(())
     }
 
     // Refuses nothing: what is held against the check counts as width 0 and no rows.
@@ -48,10 +37,17 @@ impl<'a, T: Scalar> AllRows<'a, T> {
         ensures kept { all_rows T.Arithmetic.ops.zero result.width result.count result.cells.now ≡
             all_rows T.Arithmetic.ops.zero width count cells.old }
     {
-        AllRows {
-            width,
-            count,
-            cells,
+        match AllRows::<T>::check(width, count, cells.len()) {
+            Ok(()) => AllRows {
+                width,
+                count,
+                cells,
+            },
+            Err(_) => AllRows {
+                width: 0,
+                count: 0,
+                cells,
+            },
         }
     }
 }
@@ -62,48 +58,27 @@ impl<'a, T: Scalar> Keeper<T> for AllRows<'a, T> {
     ghost sound = { λ k. all_rows_sound T.Arithmetic.ops.zero k.width k.count k.cells.now };
 
     fn width(&self) -> usize {
-        if fits(self.width, self.count, self.cells.len()) {
-            self.width
-        } else {
-            0
-        }
+        self.width
     }
 
+    #[tactic(auto, using(crate::proofs::Held::all_rows_count))]
     fn rows(&self) -> usize {
-        if fits(self.width, self.count, self.cells.len()) {
-            self.count
-        } else {
-            0
-        }
+        self.count
     }
 
+    #[tactic(auto, using(crate::proofs::Held::all_rows_cell, crate::proofs::Held::all_rows_outside))]
     fn read(&self, row: usize, column: usize) -> Result<T, Fault> {
-        let width = self.width;
-        let count = self.count;
-        if fits(width, count, self.cells.len()) {
-            if row < count && column < width {
-                return Ok(entry(self.cells, count, row, column));
-            }
+        if row >= self.count || column >= self.width {
+            return Err(Fault::Column);
         }
-        Err(Fault::Column)
+        Ok(entry(self.cells, self.count, row, column))
     }
 
-    fn turn(
-        &mut self,
-        column: usize,
-        c: T::Real,
-        s: T::Real,
-        direction: Direction,
-    ) -> Result<(), Fault> {
-        let width = self.width;
-        let count = self.count;
-        let length = self.cells.len();
-        if fits(width, count, length) {
-            if column < width && column + 1 < width {
-                rotate(self.cells, width, count, column, c, sine_of(direction, s));
-                return Ok(());
-            }
+    fn turn(&mut self, turn: &Turn<T::Real>) -> Result<(), Fault> {
+        if !turn.is_inside(self.width) {
+            return Err(Fault::Column);
         }
-        Err(Fault::Column)
+        rotate(self.cells, self.width, self.count, turn);
+        Ok(())
     }
 }

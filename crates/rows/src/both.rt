@@ -1,12 +1,11 @@
 // A keeper of any two keepers: the first's rows, then the second's.
 ghost use Rattle.std.specs.Prelude.{◌≡◌, ◌+◌, length};
-ghost use Rattle.rows.specs.Turns.{turn_of};
 ghost use Rattle.rows.specs.Keepers.{answered, kept_turned, turn_answer};
 ghost use Rattle.rows.specs.Makes.{both, both_check, both_fit, either_cell};
 ghost use Rattle.rows.specs.Sounds.{both_sound};
 
-use crate::direction::Direction;
 use crate::keeper::Keeper;
+use crate::turn::Turn;
 use fault::Fault;
 use scalar::{Arithmetic, Scalar};
 
@@ -26,7 +25,7 @@ fn together<T: Scalar, A: Keeper<T>, B: Keeper<T>>(first: &A, second: &B) -> usi
 fn fit<T: Scalar, A: Keeper<T>, B: Keeper<T>>(first: &A, second: &B) -> bool
     ensures { result ≡ both_fit (A.Keeper.kept first.now) (B.Keeper.kept second.now) }
 {
-    first.width() == second.width() && together(first, second) <= 65_536
+    Both::<A, B>::check::<T>(first, second).is_ok()
 }
 
 fn read_either<T: Scalar, A: Keeper<T>, B: Keeper<T>>(
@@ -50,22 +49,17 @@ fn read_either<T: Scalar, A: Keeper<T>, B: Keeper<T>>(
 fn turn_each<T: Scalar, A: Keeper<T>, B: Keeper<T>>(
     first: &mut A,
     second: &mut B,
-    column: usize,
-    c: T::Real,
-    s: T::Real,
-    direction: Direction,
+    turn: &Turn<T::Real>,
 ) -> Result<(), Fault>
     requires { (A.Keeper.kept first.old).width ≡ (B.Keeper.kept second.old).width }
-    ensures answer { answered result ≡ turn_answer (A.Keeper.kept first.old) column }
+    ensures answer { answered result ≡ turn_answer (A.Keeper.kept first.old) turn.now.column }
     ensures first { A.Keeper.kept first.new ≡
-        kept_turned T.Arithmetic.ops (turn_of column c s direction) (A.Keeper.kept first.old) }
+        kept_turned T.Arithmetic.ops turn.now (A.Keeper.kept first.old) }
     ensures second { B.Keeper.kept second.new ≡
-        kept_turned T.Arithmetic.ops (turn_of column c s direction) (B.Keeper.kept second.old) }
+        kept_turned T.Arithmetic.ops turn.now (B.Keeper.kept second.old) }
 {
-    match first.turn(column, c, s, direction) {
-        Ok(_) => second.turn(column, c, s, direction),
-        Err(fault) => Err(fault),
-    }
+    first.turn(turn)?;
+    second.turn(turn)
 }
 
 impl<A, B> Both<A, B> {
@@ -77,12 +71,12 @@ impl<A, B> Both<A, B> {
             both_check (A.Keeper.kept first.now) (B.Keeper.kept second.now) }
     {
         if first.width() != second.width() {
-            Err(Fault::Width)
-        } else if together(first, second) <= 65_536 {
-            Ok(())
-        } else {
-            Err(Fault::Length)
+            return Err(Fault::Width);
         }
+        if together(first, second) > 65_536 {
+            return Err(Fault::Length);
+        }
+        Ok(())
     }
 
     // Refuses nothing: what is held against the check counts as width 0 and no rows.
@@ -130,25 +124,18 @@ impl<T: Scalar, A: Keeper<T>, B: Keeper<T>> Keeper<T> for Both<A, B> {
         }
     }
 
+    #[tactic(auto, using(crate::proofs::Held::either_cell_is))]
     fn read(&self, row: usize, column: usize) -> Result<T, Fault> {
-        if fit(&self.first, &self.second) {
-            read_either(&self.first, &self.second, row, column)
-        } else {
-            Err(Fault::Column)
+        if !fit(&self.first, &self.second) {
+            return Err(Fault::Column);
         }
+        read_either(&self.first, &self.second, row, column)
     }
 
-    fn turn(
-        &mut self,
-        column: usize,
-        c: T::Real,
-        s: T::Real,
-        direction: Direction,
-    ) -> Result<(), Fault> {
-        if fit(&self.first, &self.second) {
-            turn_each(&mut self.first, &mut self.second, column, c, s, direction)
-        } else {
-            Err(Fault::Column)
+    fn turn(&mut self, turn: &Turn<T::Real>) -> Result<(), Fault> {
+        if !fit(&self.first, &self.second) {
+            return Err(Fault::Column);
         }
+        turn_each(&mut self.first, &mut self.second, turn)
     }
 }

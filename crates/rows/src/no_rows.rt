@@ -4,8 +4,8 @@ ghost use Rattle.std.proofs.Common.{lit≤};
 ghost use Rattle.rows.specs.Keepers.{answered};
 ghost use Rattle.rows.specs.Makes.{no_rows_check, no_rows_width, width_fits};
 
-use crate::direction::Direction;
 use crate::keeper::Keeper;
+use crate::turn::Turn;
 use fault::Fault;
 use scalar::Scalar;
 
@@ -25,11 +25,10 @@ impl NoRows {
     pub fn check(width: usize) -> Result<(), Fault>
         ensures answer { answered result ≡ no_rows_check width }
     {
-        if width_fits(width) {
-            Ok(())
-        } else {
-            Err(Fault::Side)
+        if !width_fits(width) {
+            return Err(Fault::Side);
         }
+        Ok(())
     }
 
     // Refuses nothing: against the check it has width 0.
@@ -59,18 +58,10 @@ impl<T: Scalar> Keeper<T> for NoRows {
         Err(Fault::Column)
     }
 
-    fn turn(
-        &mut self,
-        column: usize,
-        _c: T::Real,
-        _s: T::Real,
-        _direction: Direction,
-    ) -> Result<(), Fault> {
-        let width = self.width;
-        if column < width && column + 1 < width {
-            Ok(())
-        } else {
-            Err(Fault::Column)
+    fn turn(&mut self, turn: &Turn<T::Real>) -> Result<(), Fault> {
+        if !turn.is_inside(self.width) {
+            return Err(Fault::Column);
         }
+        Ok(())
     }
 }
