@@ -1,7 +1,10 @@
 -- The matrix Q, one entry or one column on.
-use Rattle.std.proofs.Common.{◌≡◌, ℕ, zero, suc, ◌+◌, ◌-◌, ◌*◌, ◌<◌, ◌≤◌, cond, eqb, List, [], ◌∷◌, ◌++◌, length, get_or, take, drop, set, sym, refl, ap, ◌∙◌, append_assoc, zero-mul, add-one, arith, length-drop, length-take-le, drop-drop, take-add}
+use Rattle.std.proofs.Common.{◌≡◌, ℕ, zero, suc, ◌+◌, ◌-◌, ◌*◌, ◌/◌, ◌%◌, ◌<◌, ◌≤◌, cond, eqb, List, [], ◌∷◌, ◌++◌, length, get_or, take, drop, set, sym, refl, ap, ◌∙◌, ⊎_elim, append_assoc, zero-mul, suc-mul, zero-add, add-zero, add-one, arith, length-append, length-drop, length-take-le, drop-drop, take-add}
 use borrow.Rule.Slice.PartMut.{put_mid}
-use Rattle.std.proofs.lemmas.List.{drop-take, drop_more, drop_all, take_rest}
+use Rattle.std.proofs.lemmas.List.{drop-take, drop_more, drop_all, take_rest, get_or-append_right}
+use Rattle.std.proofs.lemmas.Bool.{cases_lt}
+use Rattle.std.proofs.Math.ListN.{get_or-append}
+use Rattle.std.proofs.Math.Nat.{mod-eq_of_lt, mod-eq-sub-mod, div-eq_of_lt, add-div_right}
 use Rattle.std.proofs.lemmas.Slice.{take-put_mid, drop-put_mid}
 use Rattle.tridiagonal.specs.Assemble.{unit_from, identity_from, reflected_columns, reflected_from, assembled_from, matrix_q}
 use Rattle.tridiagonal.specs.Blas.{dotc_of}
@@ -25,35 +28,64 @@ module _ {C R : Type 0} (K : Kind C R) where
   length_unit j i zero = ap length (unit_none j i)
   length_unit j i (suc m) = ap length (unit_cons j i m) ∙ ap suc (length_unit j (suc i) m)
 
-  pub unit_more : (j i n : ℕ) (ys : List C) (v : C) → i < n → i < length ys → v ≡ cond (eqb i j) K.ops.one K.ops.zero →
-      take (i + 1) (set ys i v) ++ unit_from K j (i + 1) (n - (i + 1)) ≡ take i ys ++ unit_from K j i (n - i)
-  unit_more j i n ys v h within is =
-      let count : n - i ≡ suc (n - (i + 1)) = omega arith in
-      write_out (unit_from K j i (n - i)) (unit_from K j (i + 1) (n - (i + 1))) ys i v within
-      (ap (unit_from K j i) count ∙ unit_cons j i (n - (i + 1))
-      ∙ ap (λ (k : ℕ). cond (eqb i j) K.ops.one K.ops.zero ∷ unit_from K j k (n - (i + 1))) (sym (add-one i))
-      ∙ ap (λ (w : C). w ∷ unit_from K j (i + 1) (n - (i + 1))) (sym is))
+  unit_at : (j i m k : ℕ) (d : C) → k < m → get_or (unit_from K j i m) k d ≡ cond (eqb (i + k) j) K.ops.one K.ops.zero
+  unit_at j i zero k d h = let no : ⊥ = omega arith in absurd no
+  unit_at j i (suc m) zero d h =
+      ap (λ (l : List C). get_or l 0 d) (unit_cons j i m) ∙ ap (λ (r : ℕ). cond (eqb r j) K.ops.one K.ops.zero) (sym (add-zero i))
+  unit_at j i (suc m) (suc k) d h =
+      let less : k < m = omega arith in
+      let on : suc i + k ≡ i + suc k = omega arith in
+      ap (λ (l : List C). get_or l (suc k) d) (unit_cons j i m) ∙ unit_at j (suc i) m k d less
+      ∙ ap (λ (r : ℕ). cond (eqb r j) K.ops.one K.ops.zero) on
 
   identity_cons : (n j m : ℕ) → identity_from K n j (suc m) ≡ unit_from K j 0 n ++ identity_from K n (suc j) m
   unfolding identity_from
   identity_cons n j m = refl
 
-  pub identity_none : (n j : ℕ) → identity_from K n j 0 ≡ []
+  identity_none : (n j : ℕ) → identity_from K n j 0 ≡ []
   unfolding identity_from
   identity_none n j = refl
 
-  pub identity_more : (n j b e : ℕ) (q u : List C) → j < n → e ≡ b + n → e ≤ length q →
-      u ≡ put_mid b (b + n - b) q (unit_from K j 0 n) →
-      take e u ++ identity_from K n (j + 1) (n - (j + 1)) ≡ take b q ++ identity_from K n j (n - j)
-  identity_more n j b e q u h next held write =
-      let count : n - j ≡ suc (n - (j + 1)) = omega arith in
-      let start : b ≤ length q = omega arith in
-      let end : e ≡ b + length (unit_from K j 0 n) = let l = length_unit j 0 n in omega arith in
-      ap (λ (l : List C). take e l ++ identity_from K n (j + 1) (n - (j + 1))) write
-      ∙ ap (λ (l : List C). l ++ identity_from K n (j + 1) (n - (j + 1))) (take-put_mid b (b + n - b) q (unit_from K j 0 n) e end start)
-      ∙ append_assoc (take b q) (unit_from K j 0 n) (identity_from K n (j + 1) (n - (j + 1)))
-      ∙ ap (λ (k : ℕ). take b q ++ (unit_from K j 0 n ++ identity_from K n k (n - (j + 1)))) (add-one j)
-      ∙ ap (λ (l : List C). take b q ++ l) (sym (ap (identity_from K n j) count ∙ identity_cons n j (n - (j + 1))))
+  pub length_identity : (n j m : ℕ) → length (identity_from K n j m) ≡ m * n
+  length_identity n j zero = ap length (identity_none n j) ∙ sym (zero-mul n)
+  length_identity n j (suc m) =
+      let u = length_unit j 0 n in let r = length_identity n (suc j) m in let more = suc-mul m n in
+      ap length (identity_cons n j m) ∙ length-append (unit_from K j 0 n) (identity_from K n (suc j) m) ∙ omega arith
+
+  same_place : (i j i' j' : ℕ) → i ≡ i' → j ≡ j' → cond (eqb i j) K.ops.one K.ops.zero ≡ cond (eqb i' j') K.ops.one K.ops.zero
+  same_place i j i' j' e f = cc
+
+  identity_at : (n j m k : ℕ) (d : C) → 0 < n → k < m * n →
+      get_or (identity_from K n j m) k d ≡ cond (eqb (k % n) (j + k / n)) K.ops.one K.ops.zero
+  identity_at n j zero k d some h = let z = zero-mul n in let no : ⊥ = omega arith in absurd no
+  identity_at n j (suc m) k d some h =
+      let long = length_unit j 0 n in
+      let more = suc-mul m n in
+      ap (λ (l : List C). get_or l k d) (identity_cons n j m)
+      ∙ ⊎_elim
+      (λ (low : k < n).
+      let here : k < length (unit_from K j 0 n) = omega arith in
+      get_or-append (unit_from K j 0 n) (identity_from K n (suc j) m) d k here ∙ unit_at j 0 n k d low
+      ∙ same_place (0 + k) j (k % n) (j + k / n) (zero-add k ∙ sym (mod-eq_of_lt low))
+      (let none : k / n ≡ 0 = div-eq_of_lt low in omega arith))
+      (λ (high : n ≤ k).
+      let rest : k - n < m * n = omega arith in
+      get_or-append_right (unit_from K j 0 n) (identity_from K n (suc j) m) n k d long high
+      ∙ identity_at n (suc j) m (k - n) d some rest
+      ∙ same_place ((k - n) % n) (suc j + (k - n) / n) (k % n) (j + k / n) (sym (mod-eq-sub-mod high))
+      (let whole : k ≡ k - n + n = omega arith in
+      let one_more : k / n ≡ (k - n) / n + 1 = ap (λ (i : ℕ). i / n) whole ∙ add-div_right (k - n) some in
+      omega arith))
+      (cases_lt k n)
+
+  pub identity_more : (n k : ℕ) (q : List C) (v : C) → 0 < n → k < n * n → k < length q →
+      v ≡ cond (eqb (k % n) (k / n)) K.ops.one K.ops.zero →
+      take (k + 1) (set q k v) ++ drop (k + 1) (identity_from K n 0 n) ≡ take k q ++ drop k (identity_from K n 0 n)
+  identity_more n k q v some h within is =
+      let I = identity_from K n 0 n in
+      let there : k < length I = let long = length_identity n 0 n in omega arith in
+      let here = identity_at n 0 n k v some h ∙ ap (λ (c : ℕ). cond (eqb (k % n) c) K.ops.one K.ops.zero) (zero-add (k / n)) ∙ sym is in
+      write_out (drop k I) (drop (k + 1) I) q k v within (drop_more I k v there ∙ ap (λ (w : C). w ∷ drop (k + 1) I) here)
 
   length_reflected : (axis ys : List C) (sign : C) → length axis ≡ length ys → length (reflected K axis sign ys) ≡ length ys
   unfolding reflected

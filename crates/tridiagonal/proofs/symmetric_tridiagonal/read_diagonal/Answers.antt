@@ -9,7 +9,8 @@ use Rattle.tridiagonal.proofs.symmetric_tridiagonal.read_diagonal.Goals as goal
 
 pub column-requires : goal.column-requires
 column-requires g c =
-    let held = column_held c.loop-i.i c.args.n c.args.n c.loop-i-test.true in
+    let less : c.loop-i.i < c.args.n = omega arith in
+    let held = column_held c.loop-i.i c.args.n c.args.n less in
     record { rows = omega arith; held = omega arith }
 
 some_rows : {C : Type 0} (t c : List C) (i n : ℕ) → i < n → length t ≡ n * n → c ≡ take (n - i) (drop (i * n + i) t) → 0 < length c
@@ -20,18 +21,20 @@ some_rows t c i n h held e =
 
 pub bounds-column-0 : goal.bounds-column-0
 bounds-column-0 g c =
-    some_rows c.args.table.now c.column.result.now c.loop-i.i c.args.n c.loop-i-test.true c.requires.held c.column.ensures
+    let less : c.loop-i.i < c.args.n = omega arith in
+    some_rows c.args.table.now c.column.result.now c.loop-i.i c.args.n less c.requires.held c.column.ensures
 
 pub loop-i-preserved : goal.loop-i-preserved
 loop-i-preserved g c =
     let K = kind g.T.Arithmetic.ops g.T.Real.Arithmetic.ops g.T.Real.RealScalar.real in
     let n = c.args.n in let i = c.loop-i.i in let t = c.args.table.now in
+    let less : i < n = omega arith in
     let all : i + (n - i) ≡ n = omega arith in
     let some : 0 < n - i = omega arith in
     let count : n - i - 1 ≡ n - (i + 1) = omega arith in
     let within : i < length c.loop-i.values = omega arith in
     let first = c.index-column-0.result in
-    let rows = some_rows t c.column.result.now i n c.loop-i-test.true c.requires.held c.column.ensures in
+    let rows = some_rows t c.column.result.now i n less c.requires.held c.column.ensures in
     let is = c.real.ensures.value ∙ ap K.ops.real (get_or_read c.column.result.now 0 first rows c.index-column-0.is K.ops.zero
     ∙ ap (λ (l : List g.row.T.Denot). get_or l 0 K.ops.zero) c.column.ensures) in
     let cols = lower_more n i (n - i) (i * n) ((i + 1) * n) t all some (column_next i n)
