@@ -1,4 +1,3 @@
-pub mod Decoding
 pub mod Desks
 pub mod Gathering
 pub mod Hexadecimal

@@ -1,13 +1,15 @@
 // The text of a listing.
 ghost use Rattle.std.specs.Prelude.{◌≡◌, ◌%◌, ◌++◌, IfOk, string_bytes, OnOk};
+ghost use Rattle.sheet.specs.Kinds.{kind_number};
 ghost use Rattle.sheet.specs.Text.{hex_digit, hex_digits, heading_text, refusal_text};
 
+use crate::kind::Kind;
 use std::alloc::{AllocError, Global};
 
 // What a listing tells of a closed table before its values: `largest` is the bits of its largest size.
-#[derive(Clone, Copy)]
+#[derive(Clone, Copy, PartialEq, Eq, Debug)]
 pub struct Heading {
-    pub kind: u8,
+    pub kind: Kind,
     pub side: usize,
     pub largest: u64,
 }
@@ -42,9 +44,9 @@ pub fn hex16(heap: Global, bits: u64) -> Result<String, AllocError>
 }
 
 pub fn heading_line(heap: Global, heading: Heading) -> Result<String, AllocError>
-    ensures text { IfOk result (λ s. string_bytes s ≡ heading_text heading.kind heading.side heading.largest) }
+    ensures text { IfOk result (λ s. string_bytes s ≡ heading_text (kind_number heading.kind) heading.side heading.largest) }
 {
-    let kind = heading.kind;
+    let kind = u8::from(heading.kind);
     let side = heading.side;
     let largest = hex16(heap, heading.largest)?;
     format!(in heap; "kind {kind} side {side} largest {largest}")
