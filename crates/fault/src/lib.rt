@@ -34,12 +34,12 @@ impl Fault {
         match self {
             Fault::Side => 1,
             Fault::Length => 2,
-            Fault::Entry { row: _, column: _ } => 3,
+            Fault::Entry { .. } => 3,
             Fault::Tolerance => 4,
             Fault::Limit => 5,
             Fault::Width => 6,
-            Fault::NotSettled { count: _ } => 7,
-            Fault::Pair { count: _ } => 8,
+            Fault::NotSettled { .. } => 7,
+            Fault::Pair { .. } => 8,
             Fault::Column => 9,
         }
     }

@@ -1,6 +1,8 @@
 -- The largest size of a table, and what every table that was opened and typed meets. Definitions only.
 use Rattle.std.specs.Prelude.{◌≡◌, ℕ, ◌*◌, ◌<◌, T, List, [], ◌∷◌, length, Some, None, fold, Option, slice_index_or}
-use Rattle.std.specs.List.{AllByRecursion}
+use Rattle.std.specs.Coded.{Coded, Coded-set, coded_ℕ, coded_option}
+use Rattle.std.specs.List.{AllByRecursion, AllByRecursion-prop}
+use Rattle.std.proofs.Math.Dec.{T_prop}
 use Rattle.scalar.specs.Ops.{Ops, RealOps}
 use Rattle.job.specs.Typed.{Typed, entries, place}
 
@@ -41,3 +43,12 @@ module _ {C R : Type 0} where
     pub mirrored : (row column : ℕ) → column < row → row < j.side → Mirrors ops j.side j.cells row column
     pub sized : Sized ops real (entries ops j)
     pub largest : j.largest ≡ largest_of ops real j
+
+  -- A table is gathered in one way at most, so that the type of jobs can keep it.
+  pub Gathered-prop : Coded C → Coded R → (ops : Ops C R) (real : RealOps R) (j : Typed C R) → IsProp (Gathered ops real j)
+  Gathered-prop c r ops real j p q i = record {
+    whole = Coded-set coded_ℕ _ _ p.whole q.whole i;
+    mirrored = λ row column l k. Coded-set (coded_option c) _ _ (p.mirrored row column l k) (q.mirrored row column l k) i;
+    sized = AllByRecursion-prop (HasSize ops real) (λ x. T_prop (real.is_size (ops.size x))) (entries ops j) p.sized q.sized i;
+    largest = Coded-set r _ _ p.largest q.largest i;
+  }

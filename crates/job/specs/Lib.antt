@@ -1,4 +1,5 @@
 pub mod Gathered
 pub mod Opening
 pub mod Rejections
+pub mod Shown
 pub mod Typed

@@ -5,7 +5,8 @@ use Rattle.scalar.specs.Ops.{Ops}
 use Rattle.job.specs.declared.job.Job.{Job}
 use Rattle.job.specs.declared.rejected.Unopened.{Unopened}
 use Rattle.job.specs.declared.rejected.Unopened.TheVariants.{Operand, Memory}
-use Rattle.job.specs.Typed.{Typed, typed, is_side, blank}
+use Rattle.job.specs.Shown.{typed}
+use Rattle.job.specs.Typed.{Typed, is_side, blank}
 
 -- Want of memory bears no number.
 pub data Opening (C R : Type 0) : Type 0 where
@@ -14,13 +15,13 @@ pub data Opening (C R : Type 0) : Type 0 where
   starved : Opening C R
 
 module _ {C R : Type 0} where
-  abbrev pub opening : Result (Job C R) Unopened → Opening C R
+  abbrev pub opening : {a b c : _} → Result (Job C R a b c) Unopened → Opening C R
   opening (Ok j) = made (typed j)
   opening (Err Operand) = turned (refused 13 [])
   opening (Err Memory) = starved
 
   -- whether the answer is other than want of memory
-  abbrev pub had_room : Result (Job C R) Unopened → Bool
+  abbrev pub had_room : {a b c : _} → Result (Job C R a b c) Unopened → Bool
   had_room (Ok j) = true
   had_room (Err Operand) = true
   had_room (Err Memory) = false

@@ -1,10 +1,9 @@
 -- A table while it is typed, as plain data, and what each command makes of it. Definitions only.
-use Rattle.std.specs.Prelude.{ℕ, ◌+◌, ◌*◌, Bool, true, false, cond, ◌&&◌, List, [], ◌∷◌, map, replicate, is_some, Some, None, vec_items, Option, from_bits, nat_le, nat_lt, slice_index_or, slice_set, Float}
+use Rattle.std.specs.Prelude.{ℕ, ◌+◌, ◌*◌, Bool, true, false, cond, ◌&&◌, List, [], ◌∷◌, map, replicate, is_some, unwrap_or, Some, None, Option, from_bits, nat_le, nat_lt, slice_index_or, slice_set, Float}
 use Rattle.std.specs.Float.Ieee.{le}
 use Rattle.std.specs.Float.{float_is_finite, binary64}
 use Rattle.fault.specs.Refusals.{Refusal, refused}
 use Rattle.scalar.specs.Ops.{Ops, RealOps}
-use Rattle.job.specs.declared.job.Job.{Job}
 
 -- `cells` is the table column by column, None where nothing was typed; `largest` is the largest size gathered.
 pub record Typed (C R : Type 0) : Type 0 where
@@ -16,15 +15,23 @@ pub record Typed (C R : Type 0) : Type 0 where
   pub limit_given : Bool
   pub largest : R
 
-abbrev pub typed : {C R : Type 0} → Job C R → Typed C R
-typed j = record {
-  side = j.side;
-  cells = vec_items j.cells;
-  tolerance = j.tolerance;
-  tolerance_given = j.tolerance_given;
-  limit = j.limit;
-  limit_given = j.limit_given;
-  largest = j.largest;
+-- The tolerance where none was given is 2^-52, and the limit 1000.
+abbrev pub usual_tolerance : Float
+usual_tolerance = from_bits binary64 0x3CB0000000000000
+
+abbrev pub usual_limit : ℕ
+usual_limit = 1000
+
+-- A table by what is kept of it: the tolerance and the limit as they were given, if they were.
+abbrev pub table_of : {C R : Type 0} → ℕ → List (Option C) → Option Float → Option ℕ → R → Typed C R
+table_of side cells tolerance limit largest = record {
+  side = side;
+  cells = cells;
+  tolerance = unwrap_or tolerance usual_tolerance;
+  tolerance_given = is_some tolerance;
+  limit = unwrap_or limit usual_limit;
+  limit_given = is_some limit;
+  largest = largest;
 }
 
 -- The sides that a table can have.
@@ -65,14 +72,13 @@ module _ {C R : Type 0} where
   entry_at ops j row column =
       cond (nat_lt row j.side && nat_lt column j.side) (entry_of ops (slice_index_or j.cells (place j.side row column) None)) ops.zero
 
-  -- the tolerance is 2^-52
   abbrev pub blank : Ops C R → ℕ → Typed C R
   blank ops side = record {
     side = side;
     cells = replicate (side * side) None;
-    tolerance = from_bits binary64 0x3CB0000000000000;
+    tolerance = usual_tolerance;
     tolerance_given = false;
-    limit = 1000;
+    limit = usual_limit;
     limit_given = false;
     largest = ops.size ops.zero;
   }

@@ -2,7 +2,8 @@
 ghost use Rattle.std.specs.Prelude.{◌≡◌, ◌*◌, ◌≤◌, true, [], ◌∷◌, ◌++◌, replicate, IfOk, None, vec_len, OnOk};
 ghost use Rattle.job.specs.Gathered.{Gathered, largest_of};
 ghost use Rattle.job.specs.Opening.{had_room, opened, opening};
-ghost use Rattle.job.specs.Typed.{entries, entry_at, entry_of, is_limit, is_side, is_tolerance, typed};
+ghost use Rattle.job.specs.Shown.{typed};
+ghost use Rattle.job.specs.Typed.{entries, entry_at, entry_of, is_limit, is_side, is_tolerance};
 
 use crate::checks::{is_side, place_of};
 use crate::job::Job;
@@ -10,22 +11,16 @@ use crate::rejected::Unopened;
 use scalar::{Arithmetic, RealScalar, Scalar};
 use std::alloc::{AllocError, Global};
 
+// The tolerance and the limit of a table to which none was given; the tolerance is 2^-52.
+const TOLERANCE: f64 = 2.220446049250313e-16;
+
+const LIMIT: u32 = 1000;
+
 // A number that was not typed is zero.
 fn number_of<T: Scalar>(cell: Option<T>) -> T
     ensures value { result ≡ entry_of T.Arithmetic.ops cell }
 {
-    match cell {
-        Some(x) => x,
-        None => T::zero(),
-    }
-}
-
-fn push_number<T: Scalar>(table: &mut Vec<T>, cell: Option<T>) -> Result<(), AllocError>
-    ensures pushed { OnOk result (table.new.items ≡
-        table.old.items ++ (entry_of T.Arithmetic.ops cell ∷ [])) }
-{
-    table.push(number_of(cell))?;
-    Ok(())
+    cell.unwrap_or(T::zero())
 }
 
 // The cells of a table in which nothing was typed.
@@ -39,25 +34,20 @@ fn untyped<T: Scalar>(heap: Global, side: usize) -> Result<Vec<Option<T>>, Alloc
     Ok(cells)
 }
 
-impl<T: Scalar> Job<T, T::Real> {
+impl<T: Scalar> Job<T> {
     // A table of zeros, with tolerance 2^-52 and limit 1000.
-    pub fn open(heap: Global, side: usize) -> Result<Job<T, T::Real>, Unopened>
+    pub fn open(heap: Global, side: usize) -> Result<Job<T>, Unopened>
         ensures outcome { opening result ≡ opened T.Arithmetic.ops side (had_room result) }
-        ensures gathered { IfOk result (λ j. Gathered T.Arithmetic.ops T.Real.RealScalar.real (typed j)) }
     {
         if !is_side(side) {
             return Err(Unopened::Operand);
         }
-        let Ok(cells) = untyped(heap, side) else {
-            return Err(Unopened::Memory);
-        };
+        let cells = untyped(heap, side)?;
         Ok(Job {
             side,
             cells,
-            tolerance: 2.220446049250313e-16,
-            tolerance_given: false,
-            limit: 1000,
-            limit_given: false,
+            tolerance: None,
+            limit: None,
             largest: T::zero().size(),
         })
     }
@@ -74,21 +64,20 @@ impl<T: Scalar> Job<T, T::Real> {
         ensures value { result ≡ (typed self.now).tolerance }
         ensures lawful { is_tolerance result ≡ true }
     {
-        self.tolerance
+        self.tolerance.unwrap_or(TOLERANCE)
     }
 
     pub fn limit(&self) -> u32
         ensures value { result ≡ (typed self.now).limit }
         ensures lawful { is_limit result ≡ true }
     {
-        self.limit
+        self.limit.unwrap_or(LIMIT)
     }
 
     // The largest size gathered: that of the whole table, entry by entry in column order.
     pub fn largest(&self) -> T::Real
         ensures value { result ≡ (typed self.now).largest }
-        ensures gathered { Gathered T.Arithmetic.ops T.Real.RealScalar.real (typed self.now) →
-            result ≡ largest_of T.Arithmetic.ops T.Real.RealScalar.real (typed self.now) }
+        ensures gathered { result ≡ largest_of T.Arithmetic.ops T.Real.RealScalar.real (typed self.now) }
     {
         self.largest
     }
@@ -108,10 +97,6 @@ impl<T: Scalar> Job<T, T::Real> {
     pub fn table(&self, heap: Global) -> Result<Vec<T>, AllocError>
         ensures table { IfOk result (λ v. v.items ≡ entries T.Arithmetic.ops (typed self.now)) }
     {
-        let mut table = Vec::new(heap);
-        for cell in self.cells.iter() {
-            push_number(&mut table, *cell)?;
-        }
-        Ok(table)
+        self.cells.iter().map(|cell| number_of(*cell)).collect(heap)
     }
 }

@@ -5,7 +5,7 @@ ghost use Rattle.job.specs.Typed.{is_limit, is_lower, is_side, is_tolerance, pla
 pub(crate) fn is_side(side: usize) -> bool
     ensures value { result ≡ is_side side }
 {
-    1 <= side && side <= 32
+    (1..=32).contains(&side)
 }
 
 pub(crate) fn is_tolerance(tolerance: f64) -> bool
@@ -17,7 +17,7 @@ pub(crate) fn is_tolerance(tolerance: f64) -> bool
 pub(crate) fn is_limit(limit: u32) -> bool
     ensures value { result ≡ is_limit limit }
 {
-    1 <= limit && limit <= 1_000_000
+    (1..=1_000_000).contains(&limit)
 }
 
 pub(crate) fn is_lower(side: usize, row: usize, column: usize) -> bool

@@ -1,23 +1,24 @@
 // The table itself. Its invariant is that of a lawful table: no other job can be built.
-ghost use Rattle.std.specs.Prelude.{◌≡◌, ◌*◌, ◌≤◌, T as Holds, vec_len, from_bits};
-ghost use Rattle.std.specs.Float.Ieee.{le};
-ghost use Rattle.std.specs.Float.{float_is_finite, binary64};
+ghost use Rattle.std.specs.Prelude.{◌≡◌, ◌*◌, ◌≤◌, IsTrue, vec_len};
+ghost use Rattle.std.specs.Option.{ForSome};
+ghost use Rattle.job.specs.Gathered.{Gathered, Gathered-prop};
+ghost use Rattle.job.specs.Typed.{is_limit, is_tolerance, table_of};
+
+use scalar::{Arithmetic, RealScalar, Scalar};
 
 // `cells` holds the table column by column, None where nothing was typed; `largest` is the largest size so far.
+// The tolerance and the limit are None until they are given.
 #[derive(Drop)]
-pub struct Job<T: Copy, R: Copy> {
+pub struct Job<T: Scalar> {
     pub(crate) side: usize,
     pub(crate) cells: Vec<Option<T>>,
-    pub(crate) tolerance: f64,
-    pub(crate) tolerance_given: bool,
-    pub(crate) limit: u32,
-    pub(crate) limit_given: bool,
-    pub(crate) largest: R,
+    pub(crate) tolerance: Option<f64>,
+    pub(crate) limit: Option<u32>,
+    pub(crate) largest: T::Real,
     ghost some: { 1 ≤ side },
     ghost few: { side ≤ 32 },
     ghost whole: { vec_len cells ≡ side * side },
-    ghost tolerable: { Holds (float_is_finite tolerance) },
-    ghost upward: { Holds (le (from_bits binary64 0) tolerance) },
-    ghost limited: { 1 ≤ limit },
-    ghost bounded: { limit ≤ 1000000 },
+    ghost tolerable: { ForSome tolerance (λ t. IsTrue (is_tolerance t)) },
+    ghost limited: { ForSome limit (λ n. IsTrue (is_limit n)) },
+    pub ghost gathered: { Gathered T.Arithmetic.ops T.Real.RealScalar.real (table_of side cells.items tolerance limit largest) } by { Gathered-prop T.code T.Real.code T.Arithmetic.ops T.Real.RealScalar.real (table_of side cells.items tolerance limit largest) },
 }

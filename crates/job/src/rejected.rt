@@ -2,8 +2,10 @@
 ghost use Rattle.std.specs.Prelude.{◌≡◌};
 ghost use Rattle.job.specs.Rejections.{rejection};
 ghost use Rattle.job.specs.declared.rejected.Rejected.TheVariants.{Solver};
+ghost use Rattle.job.specs.declared.rejected.Unopened.TheVariants.{Memory};
 
 use fault::Fault;
+use std::alloc::AllocError;
 
 #[derive(Clone, Copy, PartialEq, Eq, Debug)]
 pub enum Rejected {
@@ -42,5 +44,13 @@ impl From<Fault> for Rejected {
 
     fn from(fault: Fault) -> Rejected {
         Rejected::Solver(fault)
+    }
+}
+
+impl From<AllocError> for Unopened {
+    ghost from_gives = { λ _ r. r ≡ Memory };
+
+    fn from(_: AllocError) -> Unopened {
+        Unopened::Memory
     }
 }

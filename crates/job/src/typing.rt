@@ -1,8 +1,9 @@
 // Typing into a table. A refused command changes nothing.
-ghost use Rattle.std.specs.Prelude.{◌≡◌, ◌<◌};
-ghost use Rattle.job.specs.Gathered.{Gathered};
+ghost use Rattle.std.specs.Prelude.{◌≡◌, is_none, cond, Some, Ok, Err};
 ghost use Rattle.job.specs.Rejections.{reported};
-ghost use Rattle.job.specs.Typed.{is_typed, limiting, putting, tolerating, typed, written};
+ghost use Rattle.job.specs.Shown.{typed};
+ghost use Rattle.job.specs.Typed.{limiting, putting, tolerating};
+ghost use Rattle.job.specs.declared.rejected.Rejected.TheVariants.{Twice};
 
 use crate::checks::{is_limit, is_lower, is_tolerance, place_of};
 use crate::job::Job;
@@ -10,78 +11,58 @@ use crate::rejected::Rejected;
 use fault::Fault;
 use scalar::{Arithmetic, RealScalar, Scalar};
 
-impl<T: Scalar> Job<T, T::Real> {
-    fn is_typed(&self, row: usize, column: usize) -> bool
-        requires row { row < self.now.side }
-        requires column { column < self.now.side }
-        ensures value { result ≡ is_typed (typed self.now) row column }
-    {
-        self.cells[place_of(self.side, row, column)].is_some()
+// What may be given once.
+fn give<V: Copy>(slot: &mut Option<V>, value: V) -> Result<(), Rejected>
+    ensures kept { slot.new ≡ cond (is_none slot.old) (Some value) slot.old }
+    ensures outcome { result ≡ cond (is_none slot.old) (Ok tt) (Err Twice) }
+{
+    if slot.is_some() {
+        return Err(Rejected::Twice);
     }
+    *slot = Some(value);
+    Ok(())
+}
 
-    // The conjugate goes above the diagonal first, so that on the diagonal the number stands as typed.
-    fn write(&mut self, row: usize, column: usize, x: T)
-        requires row { row < self.old.side }
-        requires column { column < self.old.side }
-        ensures after { typed self.new ≡
-            written T.Arithmetic.ops T.Real.RealScalar.real (typed self.old) row column x }
-    {
-        let above = place_of(self.side, column, row);
-        let at = place_of(self.side, row, column);
-        self.cells[above] = Some(x.conjugate());
-        self.cells[at] = Some(x);
-        self.largest = self.largest.larger(x.size());
-    }
-
+impl<T: Scalar> Job<T> {
     // A number typed at a row and a column.
     pub fn put(&mut self, row: usize, column: usize, x: T) -> Result<(), Rejected>
         ensures outcome { (reported result, typed self.new) ≡
             putting T.Arithmetic.ops T.Real.RealScalar.real (typed self.old) row column x }
-        ensures gathered { Gathered T.Arithmetic.ops T.Real.RealScalar.real (typed self.old) →
-            Gathered T.Arithmetic.ops T.Real.RealScalar.real (typed self.new) }
     {
         if !is_lower(self.side, row, column) {
             return Err(Rejected::Operand);
         }
-        if !x.size().is_finite() {
+        let size = x.size();
+        if !size.is_finite() {
             return Err(Fault::Entry { row, column }.into());
         }
-        if self.is_typed(row, column) {
+        let at = place_of(self.side, row, column);
+        if self.cells[at].is_some() {
             return Err(Rejected::Twice);
         }
-        self.write(row, column, x);
+        // The conjugate goes above the diagonal first, so that on the diagonal the number stands as typed.
+        let above = place_of(self.side, column, row);
+        self.cells[above] = Some(x.conjugate());
+        self.cells[at] = Some(x);
+        self.largest = self.largest.larger(size);
         Ok(())
     }
 
     pub fn set_tolerance(&mut self, tolerance: f64) -> Result<(), Rejected>
         ensures outcome { (reported result, typed self.new) ≡ tolerating (typed self.old) tolerance }
-        ensures gathered { Gathered T.Arithmetic.ops T.Real.RealScalar.real (typed self.old) →
-            Gathered T.Arithmetic.ops T.Real.RealScalar.real (typed self.new) }
     {
         if !is_tolerance(tolerance) {
             return Err(Fault::Tolerance.into());
         }
-        if self.tolerance_given {
-            return Err(Rejected::Twice);
-        }
-        self.tolerance = tolerance;
-        self.tolerance_given = true;
-        Ok(())
+        give(&mut self.tolerance, tolerance)
     }
 
     pub fn set_limit(&mut self, limit: u32) -> Result<(), Rejected>
         ensures outcome { (reported result, typed self.new) ≡ limiting (typed self.old) limit }
-        ensures gathered { Gathered T.Arithmetic.ops T.Real.RealScalar.real (typed self.old) →
-            Gathered T.Arithmetic.ops T.Real.RealScalar.real (typed self.new) }
     {
         if !is_limit(limit) {
             return Err(Fault::Limit.into());
         }
-        if self.limit_given {
-            return Err(Rejected::Twice);
-        }
-        self.limit = limit;
-        self.limit_given = true;
-        Ok(())
+        give(&mut self.limit, limit)
     }
 }
