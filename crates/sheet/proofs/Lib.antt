@@ -2,6 +2,5 @@ pub mod Desks
 pub mod Gathering
 pub mod Hexadecimal
 pub mod Joining
-pub mod Printing
 pub mod Runs
 pub mod TableSteps

@@ -6,7 +6,8 @@ use Rattle.scalar.specs.Ops.{Ops, RealOps}
 use Rattle.scalar.specs.FloatOps.{float_ops, float_real}
 use Rattle.scalar.specs.ComplexOps.{complex_ops, complex_of}
 use Rattle.scalar.specs.declared.point.Complex.{Complex}
-use Rattle.job.specs.Typed.{Typed, typed, Outcome, putting, tolerating, limiting}
+use Rattle.job.specs.Shown.{typed}
+use Rattle.job.specs.Typed.{Typed, Outcome, putting, tolerating, limiting}
 use Rattle.job.specs.Opening.{Opening, made, turned, starved, opened}
 use Rattle.sheet.specs.declared.desk.Asked.{Asked}
 use Rattle.sheet.specs.declared.desk.Asked.TheVariants.{Values, Vectors}

@@ -40,8 +40,8 @@ fn open_table(heap: Global, kind: u8, side: usize) -> Result<Table, SheetFault>
     ensures outcome { begun result ≡ starting_kind (roomy (begun result)) kind side }
 {
     match Kind::try_from(kind)? {
-        Kind::Real => Ok(Table::Real(Job::<f64, f64>::open(heap, side)?)),
-        Kind::Outline => Ok(Table::Outline(Job::<Complex<f64>, f64>::open(heap, side)?)),
+        Kind::Real => Ok(Table::Real(Job::<f64>::open(heap, side)?)),
+        Kind::Outline => Ok(Table::Outline(Job::<Complex<f64>>::open(heap, side)?)),
     }
 }
 

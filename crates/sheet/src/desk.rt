@@ -11,8 +11,8 @@ use scalar::Complex;
 // An open table: of real numbers, or of outline numbers.
 #[derive(Drop)]
 pub enum Table {
-    Real(Job<f64, f64>),
-    Outline(Job<Complex<f64>, f64>),
+    Real(Job<f64>),
+    Outline(Job<Complex<f64>>),
 }
 
 // The table that is open, if one is.
@@ -50,7 +50,7 @@ pub struct Stopped {
 }
 
 impl Table {
-    pub fn kind(&self) -> Kind
+    pub(crate) fn kind(&self) -> Kind
         ensures value { result ≡ kind_of self.now }
     {
         match self {
@@ -59,7 +59,7 @@ impl Table {
         }
     }
 
-    pub fn side(&self) -> usize
+    pub(crate) fn side(&self) -> usize
         ensures value { result ≡ side_of self.now }
     {
         match self {
@@ -69,7 +69,7 @@ impl Table {
     }
 
     // The largest size gathered.
-    pub fn largest(&self) -> f64
+    pub(crate) fn largest(&self) -> f64
         ensures value { result ≡ largest_of self.now }
     {
         match self {
@@ -78,7 +78,7 @@ impl Table {
         }
     }
 
-    pub fn set_tolerance(&mut self, tolerance: f64) -> Result<(), Rejected>
+    pub(crate) fn set_tolerance(&mut self, tolerance: f64) -> Result<(), Rejected>
         ensures outcome { typing (reported result) (state_of self.new) ≡ tolerates (state_of self.old) tolerance }
     {
         match self {
@@ -87,7 +87,7 @@ impl Table {
         }
     }
 
-    pub fn set_limit(&mut self, limit: u32) -> Result<(), Rejected>
+    pub(crate) fn set_limit(&mut self, limit: u32) -> Result<(), Rejected>
         ensures outcome { typing (reported result) (state_of self.new) ≡ limits (state_of self.old) limit }
     {
         match self {

@@ -15,26 +15,26 @@ pub struct Operands<'a> {
 }
 
 impl Operands<'_> {
-    pub fn u8_at(self, i: usize) -> u8
+    pub(crate) fn u8_at(self, i: usize) -> u8
         ensures value { result ≡ field i 1 self.entry.bytes.now }
     {
         u8_at(self.bytes, i)
     }
 
-    pub fn u16_at(self, i: usize) -> u16
+    pub(crate) fn u16_at(self, i: usize) -> u16
         ensures value { result ≡ field i 2 self.entry.bytes.now }
     {
         u16_at(self.bytes, i)
     }
 
-    pub fn u32_at(self, i: usize) -> u32
+    pub(crate) fn u32_at(self, i: usize) -> u32
         ensures value { result ≡ field i 4 self.entry.bytes.now }
     {
         u32_at(self.bytes, i)
     }
 
     // The binary64 number in the eight bytes from `i` on.
-    pub fn f64_at(self, i: usize) -> f64
+    pub(crate) fn f64_at(self, i: usize) -> f64
         ensures value { result ≡ from_bits binary64 (field i 8 self.entry.bytes.now) }
     {
         f64_from_bits_with_nan(u64_at(self.bytes, i))
