@@ -1,33 +1,71 @@
--- One more hexadecimal digit after those of the number's front.
-use Rattle.std.proofs.Common.{◌≡◌, ℕ, zero, suc, ◌-◌, ◌/◌, ◌%◌, ◌<◌, List, [], ◌∷◌, ◌++◌, refl, ap, ◌∙◌, append_assoc, arith, rules}
-use Rattle.std.proofs.lemmas.List.{append-nil}
+-- Sixteen hexadecimal digits are those of the number with zeros before them.
+use Rattle.std.proofs.Common.{◌≡◌, ℕ, zero, suc, ◌+◌, ◌-◌, ◌/◌, ◌%◌, ◌^◌, ◌<◌, Bool, true, false, cond, eqb, List, [], ◌∷◌, ◌++◌, length, replicate, Some, refl, sym, ap, ◌∙◌, append_assoc, add-one, arith}
+use Rattle.std.proofs.lemmas.Bool.{eqb-true, eqb-false}
+use Rattle.std.proofs.lemmas.List.{append-nil, replicate_more}
+use Rattle.std.proofs.Math.Nat.{pow-suc}
+use Rattle.std.specs.Fmt.{digits, digits_onto, digits_output, styled_digits_output, padded_integral, format_spec, char_count}
+use Rattle.std.specs.Option.{option_map}
 use Rattle.sheet.specs.Text.{hex_digit, hex_digits}
 
-ascii : (d : ℕ) → d < 16 → hex_digit d < 128
-ascii d h = search rules
+-- `ds` is the last `count` digits of `n` before `acc`, but for the zeros that stand first.
+record Front (count n : ℕ) (acc ds : List ℕ) : Type 0 where
+  zeros : ℕ
+  many : zeros + length ds ≡ count + length acc
+  text : replicate zeros 48 ++ ds ≡ hex_digits count n ++ acc
 
-more : (count n : ℕ) → (count ≡ 0 → ⊥) → hex_digits count n ≡ hex_digits (count - 1) (n / 16) ++ (hex_digit (n % 16) ∷ [])
+zeros_alone : (count : ℕ) → replicate count 48 ≡ hex_digits count 0
 unfolding hex_digits
-more zero n h = absurd (h refl)
-more (suc count) n h =
-    let less : count ≡ suc count - 1 = omega arith in
-    ap (λ k. hex_digits k (n / 16) ++ (hex_digit (n % 16) ∷ [])) less
+zeros_alone zero = refl
+zeros_alone (suc count) =
+    sym (replicate_more count 48 ∙ ap (λ k. replicate k 48) (add-one count)) ∙ ap (λ ds. ds ++ (48 ∷ [])) (zeros_alone count)
 
--- No digit adds nothing.
-pub none : (start : List ℕ) (count n : ℕ) → count ≡ 0 → start ≡ start ++ hex_digits count n
+one_more : (count n : ℕ) (acc : List ℕ) → hex_digits count (n / 16) ++ (hex_digit (n % 16) ∷ acc) ≡ hex_digits (suc count) n ++ acc
 unfolding hex_digits
-none start count n e = rw (e, append-nil start)
+one_more count n acc = sym (append_assoc (hex_digits count (n / 16)) (hex_digit (n % 16) ∷ []) acc)
 
--- `after` adds what the character `ch` is written as to `before`, which adds the other digits to `start`.
-pub pushed : (start before after written : List ℕ) (ch count n : ℕ) → (count ≡ 0 → ⊥) →
-    before ≡ start ++ hex_digits (count - 1) (n / 16) → ch ≡ hex_digit (n % 16) → (ch < 128 → written ≡ ch ∷ []) →
-    after ≡ before ++ written → after ≡ start ++ hex_digits count n
-pushed start before after written ch count n some front digit short added =
-    let below : n % 16 < 16 = omega arith in
-    let small : ch < 128 = rw digit (ascii (n % 16) below) in
-    let one : written ≡ hex_digit (n % 16) ∷ [] = short small ∙ ap (λ d. d ∷ []) digit in
-    let all : hex_digits count n ≡ hex_digits (count - 1) (n / 16) ++ (hex_digit (n % 16) ∷ []) = more count n some in
-    let group : (start ++ hex_digits (count - 1) (n / 16)) ++ (hex_digit (n % 16) ∷ []) ≡
-    start ++ (hex_digits (count - 1) (n / 16) ++ (hex_digit (n % 16) ∷ [])) =
-    append_assoc start (hex_digits (count - 1) (n / 16)) (hex_digit (n % 16) ∷ []) in
-    cc
+-- The last digit, and then those before it, if any.
+by_test : (count k n : ℕ) (acc : List ℕ) (b : Bool) → eqb (n / 16) 0 ≡ b →
+    ((n / 16 ≡ 0 → ⊥) → Front (suc count) n acc (digits_onto k 16 true (n / 16) (hex_digit (n % 16) ∷ acc))) →
+    Front (suc count) n acc (cond b (hex_digit (n % 16) ∷ acc) (digits_onto k 16 true (n / 16) (hex_digit (n % 16) ∷ acc)))
+by_test count k n acc true e f = record {
+  zeros = count;
+  many = omega arith;
+  text =
+      ap (λ ds. ds ++ (hex_digit (n % 16) ∷ acc)) (zeros_alone count ∙ ap (hex_digits count) (sym (eqb-true (n / 16) 0 e))) ∙
+      one_more count n acc;
+}
+by_test count k n acc false e f = f (eqb-false (n / 16) 0 e)
+
+grows : (count n : ℕ) (acc ds : List ℕ) → Front count (n / 16) (hex_digit (n % 16) ∷ acc) ds → Front (suc count) n acc ds
+grows count n acc ds f = record {
+  zeros = f.zeros;
+  many = omega (arith, f.many);
+  text = f.text ∙ one_more count n acc;
+}
+
+fronts : (count k n : ℕ) (acc : List ℕ) → count < k → n < 16 ^ suc count → Front (suc count) n acc (digits_onto k 16 true n acc)
+fronts count zero n acc l h = absurd (omega arith)
+fronts zero (suc k) n acc l h = by_test 0 k n acc (eqb (n / 16) 0) refl (λ some. absurd (some (omega arith)))
+fronts (suc count) (suc k) n acc l h =
+    by_test (suc count) k n acc (eqb (n / 16) 0) refl
+    (λ some. grows (suc count) n acc _
+    (fronts count k (n / 16) (hex_digit (n % 16) ∷ acc) (omega arith) (omega (arith, pow-suc 16 (suc count)))))
+
+front : (n : ℕ) → n < 2 ^ 64 → Front 16 n [] (digits 16 true n)
+unfolding digits
+front n h = fronts 15 64 n [] (omega arith) (omega arith)
+
+sixteen : (n : ℕ) → n < 2 ^ 64 →
+    padded_integral (format_spec 32 0 4 16 (2 ^ 64 - 1)) false [] (digits 16 true n) ≡ hex_digits 16 n
+unfolding padded_integral char_count
+sixteen n h =
+    let f = front n h in
+    let z : 16 - length (digits 16 true n) - 0 - 0 ≡ f.zeros = omega (arith, f.many) in
+    ap (λ k. replicate k 48 ++ (digits 16 true n ++ [])) z ∙
+    ap (λ ds. replicate f.zeros 48 ++ ds) (append-nil (digits 16 true n)) ∙ f.text ∙ append-nil (hex_digits 16 n)
+
+-- What `{:016X}` writes of a number.
+pub written : (d : _) (s : _) (n : ℕ) → s ≡ format_spec 32 0 4 16 (2 ^ 64 - 1) → digits_output d ≡ Some (digits 16 true n) → n < 2 ^ 64 →
+    styled_digits_output d s ≡ Some (hex_digits 16 n)
+written d s n e f h =
+    rw e (ap (option_map (padded_integral (format_spec 32 0 4 16 (2 ^ 64 - 1)) false [])) f ∙ ap Some (sixteen n h))

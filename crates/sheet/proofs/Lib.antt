@@ -1,8 +1,6 @@
-pub mod Decoding
 pub mod Desks
 pub mod Gathering
 pub mod Hexadecimal
 pub mod Joining
-pub mod Printing
 pub mod Runs
 pub mod TableSteps

@@ -1,13 +1,12 @@
 -- Reading a sheet command by command: one step of the definition is one step of the code.
 use Rattle.std.proofs.Common.{◌≡◌, ℕ, zero, suc, ◌+◌, ◌-◌, ◌<◌, ◌≤◌, Bool, true, false, cond, leb, List, [], ◌∷◌, length, take, drop, Some, None, Option, sym, refl, ap, ◌∙◌, ⊎_elim, add-zero, arith}
-use Rattle.std.proofs.lemmas.List.{drop-drop}
+use Rattle.std.proofs.lemmas.List.{drop-drop, at_drop_all}
 use Rattle.std.proofs.lemmas.Bool.{cases_lt}
 use Rattle.fault.specs.Refusals.{refused}
 use Rattle.sheet.specs.declared.command.Code.{Code}
 use Rattle.sheet.specs.Faults.{Why, rule, memory}
 use Rattle.sheet.specs.Commands.{Found, nothing, found, wrong, code_of, coded, decode, at, Stepped, end, next, refuses, Said}
 use Rattle.sheet.specs.Commands.{operand_bytes, saying}
-use Rattle.sheet.proofs.Decoding.{past}
 use Rattle.sheet.specs.Desk.{State, idle, room_for, Table, After, goes, closes, stops, applying}
 use Rattle.sheet.proofs.Desks.{starved_idle, kept_open}
 use Rattle.sheet.specs.Sheets.{Reading, ended, closed, broken, turning, reading, table_from}
@@ -67,6 +66,9 @@ pub record Reads (s : List ℕ) (place i : ℕ) (st : State) : Type 0 where
 
 pub start : (s : List ℕ) (place : ℕ) → Reads s place place idle
 start s place = record { same = refl; first = λ _. refl }
+
+past : (s : List ℕ) (i : ℕ) → length s ≤ i → at i (decode (drop i s)) ≡ end
+past s i h = ap (at i) (at_drop_all decode s i h)
 
 -- Where a command stands, and how far it reaches.
 nexts : (i p : ℕ) (w : Said) (after : ℕ) (f : Found) → next p w after ≡ at i f → (p ≡ i) × (i < after)

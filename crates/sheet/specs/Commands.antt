@@ -5,9 +5,10 @@ use Rattle.sheet.specs.declared.command.Code.{Code}
 use Rattle.sheet.specs.declared.command.Code.TheVariants as code
 use Rattle.sheet.specs.declared.command.Command.{Command}
 use Rattle.sheet.specs.declared.command.Command.TheVariants as command
-use Rattle.sheet.specs.declared.command.Step.{Step}
-use Rattle.sheet.specs.declared.command.Step.TheVariants as step
+use Rattle.sheet.specs.declared.command.Next.{Next}
 use Rattle.sheet.specs.declared.sheet_fault.Refusal.{Refusal}
+use Rattle.sheet.specs.declared.sheet_fault.SheetFault.{SheetFault}
+use Rattle.sheet.specs.declared.sheet_fault.SheetFault.TheVariants as fault
 use Rattle.sheet.specs.Bytes.{field}
 use Rattle.sheet.specs.Faults.{Why, why, rule}
 
@@ -31,6 +32,14 @@ code_of byte =
     (cond (byte == 5) (Some code.Limit)
     (cond (byte == 6) (Some code.Values)
     (cond (byte == 7) (Some code.Vectors) None))))))
+
+-- The same as an answer: a byte that begins none is a fault.
+abbrev pub answered : Option Code → Result Code SheetFault
+answered None = Err fault.Command
+answered (Some c) = Ok c
+
+abbrev pub code_answer : ℕ → Result Code SheetFault
+code_answer byte = answered (code_of byte)
 
 -- How many operand bytes follow.
 abbrev pub operand_bytes : Code → ℕ
@@ -85,27 +94,27 @@ at place (wrong w) = refuses w place
 
 -- What the code's values mean.
 abbrev pub placed : Command → ℕ
-placed (command.Open place os) = place
-placed (command.Entry place os) = place
-placed (command.OutlineEntry place os) = place
-placed (command.Tolerance place os) = place
-placed (command.Limit place os) = place
-placed (command.Values place os) = place
-placed (command.Vectors place os) = place
+placed (command.Open os) = os.place
+placed (command.Entry os) = os.place
+placed (command.OutlineEntry os) = os.place
+placed (command.Tolerance os) = os.place
+placed (command.Limit os) = os.place
+placed (command.Values os) = os.place
+placed (command.Vectors os) = os.place
 
 abbrev pub said : Command → Said
-said (command.Open place os) = saying code.Open os.now
-said (command.Entry place os) = saying code.Entry os.now
-said (command.OutlineEntry place os) = saying code.OutlineEntry os.now
-said (command.Tolerance place os) = saying code.Tolerance os.now
-said (command.Limit place os) = saying code.Limit os.now
-said (command.Values place os) = saying code.Values os.now
-said (command.Vectors place os) = saying code.Vectors os.now
+said (command.Open os) = saying code.Open os.bytes.now
+said (command.Entry os) = saying code.Entry os.bytes.now
+said (command.OutlineEntry os) = saying code.OutlineEntry os.bytes.now
+said (command.Tolerance os) = saying code.Tolerance os.bytes.now
+said (command.Limit os) = saying code.Limit os.bytes.now
+said (command.Values os) = saying code.Values os.bytes.now
+said (command.Vectors os) = saying code.Vectors os.bytes.now
 
-abbrev pub step_of : Step → Stepped
-step_of step.End = end
-step_of (step.Next c after) = next (placed c) (said c) after
+abbrev pub next_of : Option Next → Stepped
+next_of None = end
+next_of (Some n) = next (placed n.command) (said n.command) n.after
 
-abbrev pub stepped : Result Step Refusal → Stepped
-stepped (Ok s) = step_of s
+abbrev pub stepped : Result (Option Next) Refusal → Stepped
+stepped (Ok o) = next_of o
 stepped (Err r) = refuses (why r.fault) r.place

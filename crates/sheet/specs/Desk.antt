@@ -1,21 +1,26 @@
 -- The desk of a sheet, and what each command makes of it. Definitions only.
-use Rattle.std.specs.Prelude.{ℕ, Bool, true, false, cond, not, ◌&&◌, [], Some, None, Option, ◌==◌, from_bits, Float}
+use Rattle.std.specs.Prelude.{ℕ, Bool, true, false, cond, not, ◌&&◌, [], Some, None, Ok, Err, Option, Result, ◌==◌, from_bits, Float}
 use Rattle.std.specs.Float.{binary64}
 use Rattle.fault.specs.Refusals.{Refusal as Known, refused}
 use Rattle.scalar.specs.Ops.{Ops, RealOps}
 use Rattle.scalar.specs.FloatOps.{float_ops, float_real}
 use Rattle.scalar.specs.ComplexOps.{complex_ops, complex_of}
 use Rattle.scalar.specs.declared.point.Complex.{Complex}
-use Rattle.job.specs.Typed.{Typed, typed, Outcome, putting, tolerating, limiting}
+use Rattle.job.specs.Shown.{typed}
+use Rattle.job.specs.Typed.{Typed, Outcome, putting, tolerating, limiting}
 use Rattle.job.specs.Opening.{Opening, made, turned, starved, opened}
 use Rattle.sheet.specs.declared.desk.Asked.{Asked}
 use Rattle.sheet.specs.declared.desk.Asked.TheVariants.{Values, Vectors}
 use Rattle.sheet.specs.declared.desk.Desk.{Desk}
-use Rattle.sheet.specs.declared.desk.Desk.TheVariants as desk
+use Rattle.sheet.specs.declared.desk.Table.{Table as Open}
+use Rattle.sheet.specs.declared.desk.Table.TheVariants as table
 use Rattle.sheet.specs.declared.desk.Closed.{Closed}
-use Rattle.sheet.specs.declared.desk.Closed.TheVariants as closed
 use Rattle.sheet.specs.declared.desk.Applied.{Applied}
 use Rattle.sheet.specs.declared.desk.Applied.TheVariants as applied
+use Rattle.sheet.specs.declared.desk.Stopped.{Stopped}
+use Rattle.sheet.specs.declared.kind.Kind.{Kind}
+use Rattle.sheet.specs.declared.kind.Kind.TheVariants as kind
+use Rattle.sheet.specs.declared.sheet_fault.SheetFault.{SheetFault}
 use Rattle.sheet.specs.Faults.{Why, why, rule, memory}
 use Rattle.sheet.specs.Commands.{Said, opens, entry, outline_entry, tolerance, limit, values, vectors}
 
@@ -123,19 +128,49 @@ applying room st values = closing st Values
 applying room st vectors = closing st Vectors
 
 -- What the code's values mean.
+abbrev pub state_of : Open → State
+state_of (table.Real job) = real (typed job)
+state_of (table.Outline job) = outline (typed job)
+
+abbrev pub open_of : Option Open → State
+open_of None = idle
+open_of (Some t) = state_of t
+
 abbrev pub desk_of : Desk → State
-desk_of desk.Idle = idle
-desk_of (desk.Real job) = real (typed job)
-desk_of (desk.Outline job) = outline (typed job)
+desk_of d = open_of d.table
+
+abbrev pub asked_of : Asked → Open → Table
+asked_of asked (table.Real job) = real_table asked (typed job)
+asked_of asked (table.Outline job) = outline_table asked (typed job)
 
 abbrev pub table_of : Closed → Table
-table_of (closed.Real asked job) = real_table asked (typed job)
-table_of (closed.Outline asked job) = outline_table asked (typed job)
+table_of c = asked_of c.asked c.table
 
-abbrev pub after_of : Applied → After
-after_of (applied.Goes d) = goes (desk_of d)
-after_of (applied.Closes c) = closes (table_of c)
-after_of (applied.Stops fault d) = stops (why fault) (desk_of d)
+abbrev pub applied_of : Applied → After
+applied_of (applied.Goes d) = goes (desk_of d)
+applied_of (applied.Closes c) = closes (table_of c)
+
+abbrev pub after_of : Result Applied Stopped → After
+after_of (Ok a) = applied_of a
+after_of (Err s) = stops (why s.fault) (desk_of s.desk)
+
+-- An opened table on the desk, or why there is none.
+abbrev pub begun : Result Open SheetFault → After
+begun (Ok t) = goes (state_of t)
+begun (Err fault) = stops (why fault) idle
+
+-- What an open table is: its kind, its side and the largest size gathered.
+abbrev pub kind_of : Open → Kind
+kind_of (table.Real job) = kind.Real
+kind_of (table.Outline job) = kind.Outline
+
+abbrev pub side_of : Open → ℕ
+side_of (table.Real job) = (typed job).side
+side_of (table.Outline job) = (typed job).side
+
+abbrev pub largest_of : Open → Float
+largest_of (table.Real job) = (typed job).largest
+largest_of (table.Outline job) = (typed job).largest
 
 -- Whether there was memory: only want of it says no.
 abbrev pub room_for : Why → Bool

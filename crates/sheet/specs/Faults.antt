@@ -3,6 +3,7 @@ use Rattle.std.specs.Prelude.{ℕ, [], Some, None, Option}
 use Rattle.fault.specs.Refusals.{Refusal as Known, refused, refusal}
 use Rattle.job.specs.declared.rejected.Unopened.{Unopened}
 use Rattle.job.specs.declared.rejected.Unopened.TheVariants as un
+use Rattle.sheet.specs.declared.sheet_fault.Refusal.{Refusal}
 use Rattle.sheet.specs.declared.sheet_fault.SheetFault.{SheetFault}
 use Rattle.sheet.specs.declared.sheet_fault.SheetFault.TheVariants.{Solver, Command, Cut, Order, Operand, Twice, Memory}
 
@@ -31,3 +32,7 @@ numbered memory = None
 
 abbrev pub number_of : SheetFault → Option ℕ
 number_of fault = numbered (why fault)
+
+-- A refusal of the command at a place.
+abbrev pub refusal_at : SheetFault → ℕ → Refusal
+refusal_at fault place = record { fault = fault; place = place }

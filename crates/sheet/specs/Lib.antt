@@ -2,6 +2,7 @@ pub mod Bytes
 pub mod Commands
 pub mod Desk
 pub mod Faults
+pub mod Kinds
 pub mod Laws
 pub mod Lines
 pub mod Listings

@@ -1,18 +1,17 @@
 -- What the reader's answers mean. Definitions only.
-use Rattle.std.specs.Prelude.{Bool, true, Ok, Err, Result}
+use Rattle.std.specs.Prelude.{Bool, true, Some, None, Ok, Err, Option, Result}
 use Rattle.sheet.specs.declared.sheet_fault.Refusal.{Refusal}
 use Rattle.sheet.specs.declared.reading.Reading.{Reading as Answer}
-use Rattle.sheet.specs.declared.reading.Reading.TheVariants.{Ended, Closed}
 use Rattle.sheet.specs.Faults.{why}
 use Rattle.sheet.specs.Desk.{room_for, table_of}
 use Rattle.sheet.specs.Sheets.{Reading, ended, closed, broken}
 
-abbrev pub answer_of : Answer → Reading
-answer_of Ended = ended
-answer_of (Closed t after) = closed (table_of t) after
+abbrev pub answer_of : Option Answer → Reading
+answer_of None = ended
+answer_of (Some a) = closed (table_of a.table) a.after
 
-abbrev pub reading_of : Result Answer Refusal → Reading
-reading_of (Ok a) = answer_of a
+abbrev pub reading_of : Result (Option Answer) Refusal → Reading
+reading_of (Ok o) = answer_of o
 reading_of (Err r) = broken (why r.fault) r.place
 
 -- Whether there was memory: only want of it says no.

@@ -1,70 +1,47 @@
 // What one command does at the desk. The checks of each go in the order of their numbers, but for the solver's, which come
 // before `Twice`.
-ghost use Rattle.std.specs.Prelude.{◌≡◌, from_bits};
-ghost use Rattle.std.specs.Float.{binary64};
+ghost use Rattle.std.specs.Prelude.{◌≡◌};
 ghost use Rattle.job.specs.Rejections.{reported};
-ghost use Rattle.job.specs.Typed.{typed};
-ghost use Rattle.sheet.specs.Bytes.{field};
 ghost use Rattle.sheet.specs.Commands.{said};
-ghost use Rattle.sheet.specs.Laws.{Unchanged};
-ghost use Rattle.sheet.specs.Desk.{after_of, applying, closing, desk_of, enters, enters_outline};
-ghost use Rattle.sheet.specs.Desk.{limits, off_real, real, outline, roomy, stops};
+ghost use Rattle.sheet.specs.Desk.{after_of, applying, begun, closing, desk_of, enters, enters_outline, limits, off_real};
+ghost use Rattle.sheet.specs.Desk.{open_of, starting_kind, starts, state_of, stops, tolerates, typing};
+ghost use Rattle.sheet.specs.Desk.{roomy};
 ghost use Rattle.sheet.specs.Faults.{why};
-ghost use Rattle.sheet.specs.Desk.{outlines, reals, starting, starts, tolerates, typing};
-ghost use Rattle.job.specs.Opening.{opened};
+ghost use Rattle.sheet.specs.Laws.{Unchanged};
 
-use crate::bytes::{u8_at, u16_at, u32_at, u64_at};
 use crate::command::Command;
-use crate::desk::{Applied, Asked, Closed, Desk};
+use crate::desk::{Applied, Asked, Closed, Desk, Stopped, Table};
+use crate::kind::Kind;
 use crate::sheet_fault::SheetFault;
 use job::{Job, Rejected};
 use scalar::{Arithmetic, Complex};
 use std::alloc::Global;
-use std::num::f64_from_bits_with_nan;
-
-// The binary64 number in the eight bytes from `i` on.
-fn number_at(operands: &[u8], i: usize) -> f64
-    ensures value { result ≡ from_bits binary64 (field i 8 operands.now) }
-{
-    f64_from_bits_with_nan(u64_at(operands, i))
-}
 
 // The desk stays as it was.
-fn refuse(desk: Desk, fault: SheetFault) -> Applied
-    ensures outcome { after_of result ≡ stops (why fault) (desk_of desk) }
+fn refuse(table: Option<Table>, fault: SheetFault) -> Result<Applied, Stopped>
+    ensures outcome { after_of result ≡ stops (why fault) (open_of table) }
 {
-    Applied::Stops { fault, desk }
+    let desk = Desk { table };
+    Err(Stopped { fault, desk })
 }
 
-// A real table after something was typed into it.
-fn on_real(job: Job<f64, f64>, answer: Result<(), Rejected>) -> Applied
-    ensures outcome { after_of result ≡ typing (reported answer) (real (typed job)) }
+// A table after something was typed into it.
+fn typed(table: Table, answer: Result<(), Rejected>) -> Result<Applied, Stopped>
+    ensures outcome { after_of result ≡ typing (reported answer) (state_of table) }
 {
     match answer {
-        Ok(()) => Applied::Goes(Desk::Real(job)),
-        Err(why) => refuse(Desk::Real(job), why.into()),
+        Ok(()) => Ok(Applied::Goes(Desk { table: Some(table) })),
+        Err(why) => refuse(Some(table), why.into()),
     }
 }
 
-fn on_outline(job: Job<Complex<f64>, f64>, answer: Result<(), Rejected>) -> Applied
-    ensures outcome { after_of result ≡ typing (reported answer) (outline (typed job)) }
+// A table of zeros, of the kind that a byte tells.
+fn open_table(heap: Global, kind: u8, side: usize) -> Result<Table, SheetFault>
+    ensures outcome { begun result ≡ starting_kind (roomy (begun result)) kind side }
 {
-    match answer {
-        Ok(()) => Applied::Goes(Desk::Outline(job)),
-        Err(why) => refuse(Desk::Outline(job), why.into()),
-    }
-}
-
-fn enter(desk: Desk, row: usize, column: usize, x: f64) -> Applied
-    ensures outcome { after_of result ≡ enters (desk_of desk) row column x }
-{
-    match desk {
-        Desk::Idle => refuse(Desk::Idle, SheetFault::Order),
-        Desk::Real(mut job) => {
-            let answer = job.put(row, column, x);
-            on_real(job, answer)
-        }
-        Desk::Outline(job) => refuse(Desk::Outline(job), SheetFault::Order),
+    match Kind::try_from(kind)? {
+        Kind::Real => Ok(Table::Real(Job::<f64>::open(heap, side)?)),
+        Kind::Outline => Ok(Table::Outline(Job::<Complex<f64>>::open(heap, side)?)),
     }
 }
 
@@ -75,152 +52,112 @@ fn is_off_real(row: usize, column: usize, along: f64) -> bool
     row == column && !along.is_zero()
 }
 
-fn enter_outline(desk: Desk, row: usize, column: usize, across: f64, along: f64) -> Applied
-    ensures outcome { after_of result ≡ enters_outline (desk_of desk) row column across along }
-{
-    match desk {
-        Desk::Idle => refuse(Desk::Idle, SheetFault::Order),
-        Desk::Real(job) => refuse(Desk::Real(job), SheetFault::Order),
-        Desk::Outline(mut job) => {
-            if is_off_real(row, column, along) {
-                return refuse(Desk::Outline(job), SheetFault::Operand);
+impl Desk {
+    fn open(self, heap: Global, kind: u8, side: usize) -> Result<Applied, Stopped>
+        ensures outcome { after_of result ≡ starts (roomy (after_of result)) (desk_of self) kind side }
+    {
+        if self.table.is_some() {
+            return refuse(self.table, SheetFault::Order);
+        }
+        match open_table(heap, kind, side) {
+            Ok(table) => Ok(Applied::Goes(Desk { table: Some(table) })),
+            Err(fault) => refuse(None, fault),
+        }
+    }
+
+    fn enter(self, row: usize, column: usize, x: f64) -> Result<Applied, Stopped>
+        ensures outcome { after_of result ≡ enters (desk_of self) row column x }
+    {
+        match self.table {
+            Some(Table::Real(mut job)) => {
+                let answer = job.put(row, column, x);
+                typed(Table::Real(job), answer)
             }
-            let answer = job.put(
-                row,
-                column,
-                Complex {
+            table => refuse(table, SheetFault::Order),
+        }
+    }
+
+    fn enter_outline(
+        self,
+        row: usize,
+        column: usize,
+        across: f64,
+        along: f64,
+    ) -> Result<Applied, Stopped>
+        ensures outcome { after_of result ≡ enters_outline (desk_of self) row column across along }
+    {
+        match self.table {
+            Some(Table::Outline(mut job)) => {
+                if is_off_real(row, column, along) {
+                    return refuse(Some(Table::Outline(job)), SheetFault::Operand);
+                }
+                let x = Complex {
                     re: across,
                     im: along,
-                },
-            );
-            on_outline(job, answer)
+                };
+                let answer = job.put(row, column, x);
+                typed(Table::Outline(job), answer)
+            }
+            table => refuse(table, SheetFault::Order),
         }
     }
-}
 
-fn close(desk: Desk, asked: Asked) -> Applied
-    ensures outcome { after_of result ≡ closing (desk_of desk) asked }
-{
-    match desk {
-        Desk::Idle => refuse(Desk::Idle, SheetFault::Order),
-        Desk::Real(job) => Applied::Closes(Closed::Real { asked, job }),
-        Desk::Outline(job) => Applied::Closes(Closed::Outline { asked, job }),
+    fn set_tolerance(self, tolerance: f64) -> Result<Applied, Stopped>
+        ensures outcome { after_of result ≡ tolerates (desk_of self) tolerance }
+    {
+        let Some(mut table) = self.table else {
+            return refuse(None, SheetFault::Order);
+        };
+        let answer = table.set_tolerance(tolerance);
+        typed(table, answer)
     }
-}
 
-fn set_tolerance(desk: Desk, tolerance: f64) -> Applied
-    ensures outcome { after_of result ≡ tolerates (desk_of desk) tolerance }
-{
-    match desk {
-        Desk::Idle => refuse(Desk::Idle, SheetFault::Order),
-        Desk::Real(mut job) => {
-            let answer = job.set_tolerance(tolerance);
-            on_real(job, answer)
+    fn set_limit(self, limit: u32) -> Result<Applied, Stopped>
+        ensures outcome { after_of result ≡ limits (desk_of self) limit }
+    {
+        let Some(mut table) = self.table else {
+            return refuse(None, SheetFault::Order);
+        };
+        let answer = table.set_limit(limit);
+        typed(table, answer)
+    }
+
+    fn close(self, asked: Asked) -> Result<Applied, Stopped>
+        ensures outcome { after_of result ≡ closing (desk_of self) asked }
+    {
+        let Some(table) = self.table else {
+            return refuse(None, SheetFault::Order);
+        };
+        Ok(Applied::Closes(Closed { asked, table }))
+    }
+
+    fn applied(self, heap: Global, command: Command<'_>) -> Result<Applied, Stopped>
+        ensures outcome { after_of result ≡ applying (roomy (after_of result)) (desk_of self) (said command.entry) }
+    {
+        match command {
+            Command::Open(it) => self.open(heap, it.u8_at(0), it.u16_at(1) as usize),
+            Command::Entry(it) => {
+                self.enter(it.u16_at(0) as usize, it.u16_at(2) as usize, it.f64_at(4))
+            }
+            Command::OutlineEntry(it) => self.enter_outline(
+                it.u16_at(0) as usize,
+                it.u16_at(2) as usize,
+                it.f64_at(4),
+                it.f64_at(12),
+            ),
+            Command::Tolerance(it) => self.set_tolerance(it.f64_at(0)),
+            Command::Limit(it) => self.set_limit(it.u32_at(0)),
+            Command::Values(_) => self.close(Asked::Values),
+            Command::Vectors(_) => self.close(Asked::Vectors),
         }
-        Desk::Outline(mut job) => {
-            let answer = job.set_tolerance(tolerance);
-            on_outline(job, answer)
-        }
     }
-}
 
-fn set_limit(desk: Desk, limit: u32) -> Applied
-    ensures outcome { after_of result ≡ limits (desk_of desk) limit }
-{
-    match desk {
-        Desk::Idle => refuse(Desk::Idle, SheetFault::Order),
-        Desk::Real(mut job) => {
-            let answer = job.set_limit(limit);
-            on_real(job, answer)
-        }
-        Desk::Outline(mut job) => {
-            let answer = job.set_limit(limit);
-            on_outline(job, answer)
-        }
-    }
-}
-
-fn open_real(heap: Global, side: usize) -> Applied
-    ensures outcome { after_of result ≡ starting real (opened reals side (roomy (after_of result))) }
-{
-    match Job::<f64, f64>::open(heap, side) {
-        Ok(job) => Applied::Goes(Desk::Real(job)),
-        Err(why) => refuse(Desk::Idle, why.into()),
-    }
-}
-
-fn open_outline(heap: Global, side: usize) -> Applied
-    ensures outcome { after_of result ≡ starting outline (opened outlines side (roomy (after_of result))) }
-{
-    match Job::<Complex<f64>, f64>::open(heap, side) {
-        Ok(job) => Applied::Goes(Desk::Outline(job)),
-        Err(why) => refuse(Desk::Idle, why.into()),
-    }
-}
-
-fn open(desk: Desk, heap: Global, kind: u8, side: usize) -> Applied
-    ensures outcome { after_of result ≡ starts (roomy (after_of result)) (desk_of desk) kind side }
-{
-    match desk {
-        Desk::Idle => match kind {
-            0 => open_real(heap, side),
-            1 => open_outline(heap, side),
-            _ => refuse(Desk::Idle, SheetFault::Operand),
-        },
-        Desk::Real(job) => refuse(Desk::Real(job), SheetFault::Order),
-        Desk::Outline(job) => refuse(Desk::Outline(job), SheetFault::Order),
-    }
-}
-
-fn applied(desk: Desk, heap: Global, command: Command<'_>) -> Applied
-    ensures outcome { after_of result ≡ applying (roomy (after_of result)) (desk_of desk) (said command.entry) }
-{
-    match command {
-        Command::Open { place: _, operands } => open(
-            desk,
-            heap,
-            u8_at(operands, 0),
-            u16_at(operands, 1) as usize,
-        ),
-        Command::Entry { place: _, operands } => {
-            enter(
-                desk,
-                u16_at(operands, 0) as usize,
-                u16_at(operands, 2) as usize,
-                number_at(operands, 4),
-            )
-        }
-        Command::OutlineEntry { place: _, operands } => {
-            let row = u16_at(operands, 0) as usize;
-            let column = u16_at(operands, 2) as usize;
-            enter_outline(
-                desk,
-                row,
-                column,
-                number_at(operands, 4),
-                number_at(operands, 12),
-            )
-        }
-        Command::Tolerance { place: _, operands } => set_tolerance(desk, number_at(operands, 0)),
-        Command::Limit { place: _, operands } => set_limit(desk, u32_at(operands, 0)),
-        Command::Values {
-            place: _,
-            operands: _,
-        } => close(desk, Asked::Values),
-        Command::Vectors {
-            place: _,
-            operands: _,
-        } => close(desk, Asked::Vectors),
-    }
-}
-
-impl Desk {
     // What one command comes to.
-    pub fn apply(self, heap: Global, command: Command<'_>) -> Applied
+    pub fn apply(self, heap: Global, command: Command<'_>) -> Result<Applied, Stopped>
         ensures outcome { after_of result ≡ applying (roomy (after_of result)) (desk_of self) (said command.entry) }
         // a refused command changes nothing
         ensures unchanged { Unchanged (desk_of self) (after_of result) }
     {
-        applied(self, heap, command)
+        self.applied(heap, command)
     }
 }

@@ -1,12 +1,13 @@
 // Commands: each borrows its operand bytes from the sheet and carries the place of its byte.
 ghost use Rattle.std.specs.Prelude.{◌≡◌, drop};
-ghost use Rattle.sheet.specs.Commands.{code_of, operand_bytes, saying, placed, refuses, said, stepped, decode, at};
-ghost use Rattle.sheet.specs.Faults.{why};
+ghost use Rattle.sheet.specs.Commands.{at, code_answer, decode, operand_bytes, placed, said, saying, stepped};
 
+use crate::bytes::tail;
+use crate::operands::Operands;
 use crate::sheet_fault::{Refusal, SheetFault};
 
 // Which command a byte begins.
-#[derive(Clone, Copy)]
+#[derive(Clone, Copy, PartialEq, Eq, Debug)]
 pub enum Code {
     Open,
     Entry,
@@ -19,38 +20,42 @@ pub enum Code {
 
 #[derive(Clone, Copy)]
 pub enum Command<'a> {
-    Open { place: usize, operands: &'a [u8] },
-    Entry { place: usize, operands: &'a [u8] },
-    OutlineEntry { place: usize, operands: &'a [u8] },
-    Tolerance { place: usize, operands: &'a [u8] },
-    Limit { place: usize, operands: &'a [u8] },
-    Values { place: usize, operands: &'a [u8] },
-    Vectors { place: usize, operands: &'a [u8] },
+    Open(Operands<'a>),
+    Entry(Operands<'a>),
+    OutlineEntry(Operands<'a>),
+    Tolerance(Operands<'a>),
+    Limit(Operands<'a>),
+    Values(Operands<'a>),
+    Vectors(Operands<'a>),
 }
 
-// What stands next in a sheet: its end, or a command and the place after it.
+// A command of a sheet, and the place after it.
 #[derive(Clone, Copy)]
-pub enum Step<'a> {
-    End,
-    Next { command: Command<'a>, after: usize },
+pub struct Next<'a> {
+    pub command: Command<'a>,
+    pub after: usize,
+}
+
+impl TryFrom<u8> for Code {
+    type Error = SheetFault;
+
+    ghost try_from_gives = { λ byte code. code ≡ code_answer byte };
+
+    fn try_from(byte: u8) -> Result<Code, SheetFault> {
+        match byte {
+            0x01 => Ok(Code::Open),
+            0x02 => Ok(Code::Entry),
+            0x03 => Ok(Code::OutlineEntry),
+            0x04 => Ok(Code::Tolerance),
+            0x05 => Ok(Code::Limit),
+            0x06 => Ok(Code::Values),
+            0x07 => Ok(Code::Vectors),
+            _ => Err(SheetFault::Command),
+        }
+    }
 }
 
 impl Code {
-    fn of(byte: u8) -> Option<Code>
-        ensures value { result ≡ code_of byte }
-    {
-        match byte {
-            0x01 => Some(Code::Open),
-            0x02 => Some(Code::Entry),
-            0x03 => Some(Code::OutlineEntry),
-            0x04 => Some(Code::Tolerance),
-            0x05 => Some(Code::Limit),
-            0x06 => Some(Code::Values),
-            0x07 => Some(Code::Vectors),
-            _ => None,
-        }
-    }
-
     fn operand_bytes(self) -> usize
         ensures value { result ≡ operand_bytes self }
     {
@@ -65,45 +70,37 @@ impl Code {
         }
     }
 
-    fn command(self, place: usize, operands: &[u8]) -> Command<'_>
-        ensures place { placed result ≡ place }
-        ensures said { said result ≡ saying self operands.now }
+    fn command(self, operands: Operands<'_>) -> Command<'_>
+        ensures place { placed result ≡ operands.entry.place }
+        ensures said { said result ≡ saying self operands.entry.bytes.now }
     {
         match self {
-            Code::Open => Command::Open { place, operands },
-            Code::Entry => Command::Entry { place, operands },
-            Code::OutlineEntry => Command::OutlineEntry { place, operands },
-            Code::Tolerance => Command::Tolerance { place, operands },
-            Code::Limit => Command::Limit { place, operands },
-            Code::Values => Command::Values { place, operands },
-            Code::Vectors => Command::Vectors { place, operands },
+            Code::Open => Command::Open(operands),
+            Code::Entry => Command::Entry(operands),
+            Code::OutlineEntry => Command::OutlineEntry(operands),
+            Code::Tolerance => Command::Tolerance(operands),
+            Code::Limit => Command::Limit(operands),
+            Code::Values => Command::Values(operands),
+            Code::Vectors => Command::Vectors(operands),
         }
     }
 }
 
-// A refusal of the command at `place`.
-fn refuse<'a>(fault: SheetFault, place: usize) -> Result<Step<'a>, Refusal>
-    ensures refusal { stepped result ≡ refuses (why fault) place }
-{
-    Err(Refusal { fault, place })
-}
-
-// The command whose byte stands at `place`.
-pub fn next_command(sheet: &[u8], place: usize) -> Result<Step<'_>, Refusal>
+// The command whose byte stands at `place`, if the sheet has not ended there.
+pub fn next_command(sheet: &[u8], place: usize) -> Result<Option<Next<'_>>, Refusal>
     ensures decoded { stepped result ≡ at place (decode (drop place sheet.now)) }
 {
-    if place >= sheet.len() {
-        return Ok(Step::End);
-    }
-    let Some(code) = Code::of(sheet[place]) else {
-        return refuse(SheetFault::Command, place);
+    let Some((byte, rest)) = tail(sheet, place).split_first() else {
+        return Ok(None);
     };
-    let count = code.operand_bytes();
-    let from = place + 1;
-    if count > sheet.len() - from {
-        return refuse(SheetFault::Cut, place);
-    }
-    let after = from + count;
-    let command = code.command(place, &sheet[from..after]);
-    Ok(Step::Next { command, after })
+    let code = match Code::try_from(*byte) {
+        Ok(code) => code,
+        Err(fault) => return Err(fault.at(place)),
+    };
+    let Some(bytes) = rest.get(..code.operand_bytes()) else {
+        return Err(SheetFault::Cut.at(place));
+    };
+    let command = code.command(Operands { place, bytes });
+    let after = place + 1 + bytes.len();
+    Ok(Some(Next { command, after }))
 }

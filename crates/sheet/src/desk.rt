@@ -1,18 +1,28 @@
 // The desk on which a sheet's tables are typed, one at a time.
+ghost use Rattle.std.specs.Prelude.{◌≡◌};
+ghost use Rattle.job.specs.Rejections.{reported};
+ghost use Rattle.sheet.specs.Desk.{kind_of, largest_of, limits, side_of, state_of, tolerates, typing};
+
+use crate::kind::Kind;
 use crate::sheet_fault::SheetFault;
-use job::Job;
+use job::{Job, Rejected};
 use scalar::Complex;
 
-// No table is open, or one of real or of outline numbers: the kind is the case.
+// An open table: of real numbers, or of outline numbers.
 #[derive(Drop)]
-pub enum Desk {
-    Idle,
-    Real(Job<f64, f64>),
-    Outline(Job<Complex<f64>, f64>),
+pub enum Table {
+    Real(Job<f64>),
+    Outline(Job<Complex<f64>>),
+}
+
+// The table that is open, if one is.
+#[derive(Drop)]
+pub struct Desk {
+    pub table: Option<Table>,
 }
 
 // What the command that closed a table asks for.
-#[derive(Clone, Copy)]
+#[derive(Clone, Copy, PartialEq, Eq, Debug)]
 pub enum Asked {
     Values,
     Vectors,
@@ -20,22 +30,69 @@ pub enum Asked {
 
 // A closed table.
 #[derive(Drop)]
-pub enum Closed {
-    Real {
-        asked: Asked,
-        job: Job<f64, f64>,
-    },
-    Outline {
-        asked: Asked,
-        job: Job<Complex<f64>, f64>,
-    },
+pub struct Closed {
+    pub asked: Asked,
+    pub table: Table,
 }
 
-// What one command comes to: the desk after it, the table that it closed and left the desk idle, or why it is refused and the
-// desk, as it was.
+// What one command comes to: the desk after it, or the table that it closed and left no other open.
 #[derive(Drop)]
 pub enum Applied {
     Goes(Desk),
     Closes(Closed),
-    Stops { fault: SheetFault, desk: Desk },
+}
+
+// Why a command is refused, and the desk, as it was.
+#[derive(Drop)]
+pub struct Stopped {
+    pub fault: SheetFault,
+    pub desk: Desk,
+}
+
+impl Table {
+    pub(crate) fn kind(&self) -> Kind
+        ensures value { result ≡ kind_of self.now }
+    {
+        match self {
+            Table::Real(_) => Kind::Real,
+            Table::Outline(_) => Kind::Outline,
+        }
+    }
+
+    pub(crate) fn side(&self) -> usize
+        ensures value { result ≡ side_of self.now }
+    {
+        match self {
+            Table::Real(job) => job.side(),
+            Table::Outline(job) => job.side(),
+        }
+    }
+
+    // The largest size gathered.
+    pub(crate) fn largest(&self) -> f64
+        ensures value { result ≡ largest_of self.now }
+    {
+        match self {
+            Table::Real(job) => job.largest(),
+            Table::Outline(job) => job.largest(),
+        }
+    }
+
+    pub(crate) fn set_tolerance(&mut self, tolerance: f64) -> Result<(), Rejected>
+        ensures outcome { typing (reported result) (state_of self.new) ≡ tolerates (state_of self.old) tolerance }
+    {
+        match self {
+            Table::Real(job) => job.set_tolerance(tolerance),
+            Table::Outline(job) => job.set_tolerance(tolerance),
+        }
+    }
+
+    pub(crate) fn set_limit(&mut self, limit: u32) -> Result<(), Rejected>
+        ensures outcome { typing (reported result) (state_of self.new) ≡ limits (state_of self.old) limit }
+    {
+        match self {
+            Table::Real(job) => job.set_limit(limit),
+            Table::Outline(job) => job.set_limit(limit),
+        }
+    }
 }

@@ -8,11 +8,10 @@ ghost use Rattle.sheet.specs.Sheets.{run};
 use crate::desk::Closed;
 use crate::listing::Listing;
 use crate::read::next_table;
-use crate::reading::Reading;
-use crate::sheet_fault::{Refusal, SheetFault};
+use crate::sheet_fault::SheetFault;
 use crate::text::Heading;
 use fault::Fault;
-use std::alloc::Global;
+use std::alloc::{AllocError, Global};
 use std::num::f64_to_bits_with_nan;
 
 // The bytes that a sheet can have.
@@ -22,17 +21,10 @@ impl Closed {
     pub fn heading(&self) -> Heading
         ensures heading { result ≡ heading_of (table_of self.now) }
     {
-        match self {
-            Closed::Real { asked: _, job } => Heading {
-                kind: 0,
-                side: job.side(),
-                largest: f64_to_bits_with_nan(job.largest()),
-            },
-            Closed::Outline { asked: _, job } => Heading {
-                kind: 1,
-                side: job.side(),
-                largest: f64_to_bits_with_nan(job.largest()),
-            },
+        Heading {
+            kind: self.table.kind(),
+            side: self.table.side(),
+            largest: f64_to_bits_with_nan(self.table.largest()),
         }
     }
 }
@@ -45,53 +37,47 @@ fn heading_of(table: Closed) -> Heading
 }
 
 // The listing of a sheet that is short enough.
-fn list_tables(heap: Global, sheet: &[u8]) -> Result<Listing, SheetFault>
+fn list_tables(heap: Global, sheet: &[u8]) -> Result<Listing, AllocError>
     ensures listing { IfOk result (λ l. listing_of l ≡ headed (run sheet.now)) }
 {
     let mut headings = Vec::new(heap);
     let mut place = 0;
     'tables: loop {
         match next_table(heap, sheet, place) {
-            Ok(reading) => match reading {
-                Reading::Ended => return Ok(Listing {
-                    headings,
-                    refusal: None,
-                }),
-                Reading::Closed { table, after } => {
-                    headings.push(heading_of(table))?;
-                    place = after;
-                }
-            },
+            Ok(Some(reading)) => {
+                headings.push(heading_of(reading.table))?;
+                place = reading.after;
+            }
+            Ok(None) => return Ok(Listing {
+                headings,
+                refusal: None,
+            }),
             // a refusal without a number is want of memory
             Err(refusal) => match refusal.fault.number() {
                 Some(_) => return Ok(Listing {
                     headings,
                     refusal: Some(refusal),
                 }),
-                None => return Err(SheetFault::Memory),
+                None => return Err(AllocError),
             },
         }
     }
 }
 
-fn list_bounded(heap: Global, sheet: &[u8]) -> Result<Listing, SheetFault>
+fn list_bounded(heap: Global, sheet: &[u8]) -> Result<Listing, AllocError>
     ensures listing { IfOk result (λ l. listing_of l ≡ listed sheet.now) }
 {
     if sheet.len() > LONGEST {
-        let refusal = Refusal {
-            fault: Fault::Length.into(),
-            place: 0,
-        };
         return Ok(Listing {
             headings: Vec::new(heap),
-            refusal: Some(refusal),
+            refusal: Some(SheetFault::Solver(Fault::Length).at(0)),
         });
     }
     list_tables(heap, sheet)
 }
 
-// The listing of a sheet. It fails for want of memory alone.
-pub fn list_sheet(heap: Global, sheet: &[u8]) -> Result<Listing, SheetFault>
+// The listing of a sheet.
+pub fn list_sheet(heap: Global, sheet: &[u8]) -> Result<Listing, AllocError>
     ensures listing { IfOk result (λ l. listing_of l ≡ listed sheet.now) }
     // the largest size gathered for each closed table is that of the whole table
     ensures gathers { Gathers sheet.now }

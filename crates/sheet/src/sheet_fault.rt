@@ -1,14 +1,14 @@
 // Why a sheet is refused, and at which place.
 ghost use Rattle.std.specs.Prelude.{◌≡◌};
 ghost use Rattle.job.specs.Rejections.{rejection};
-ghost use Rattle.sheet.specs.Faults.{number_of, rule, unopened, why};
+ghost use Rattle.sheet.specs.Faults.{number_of, refusal_at, rule, unopened, why};
 ghost use Rattle.sheet.specs.declared.sheet_fault.SheetFault.TheVariants.{Solver, Memory};
 
 use fault::Fault;
 use job::{Rejected, Unopened};
 use std::alloc::{AllocError, AllocFailed};
 
-#[derive(Clone, Copy)]
+#[derive(Clone, Copy, PartialEq, Eq, Debug)]
 pub enum SheetFault {
     // a refusal of the solver, whole
     Solver(Fault),
@@ -27,7 +27,7 @@ pub enum SheetFault {
 }
 
 // A refusal with the place of its command's byte, counted from 0.
-#[derive(Clone, Copy)]
+#[derive(Clone, Copy, PartialEq, Eq, Debug)]
 pub struct Refusal {
     pub fault: SheetFault,
     pub place: usize,
@@ -81,6 +81,13 @@ impl From<Unopened> for SheetFault {
 }
 
 impl SheetFault {
+    // The refusal of the command at `place`.
+    pub fn at(self, place: usize) -> Refusal
+        ensures refusal { result ≡ refusal_at self place }
+    {
+        Refusal { fault: self, place }
+    }
+
     // The number that a listing tells it by.
     pub fn number(self) -> Option<u8>
         ensures number { result ≡ number_of self }

@@ -1,57 +1,73 @@
-// The text of a listing.
-ghost use Rattle.std.specs.Prelude.{◌≡◌, ◌%◌, ◌++◌, IfOk, string_bytes, OnOk};
-ghost use Rattle.sheet.specs.Text.{hex_digit, hex_digits, heading_text, refusal_text};
+// The lines of a listing.
+ghost use Rattle.std.specs.Prelude.{◌≡◌, decimal, IfOk, Some, string_bytes};
+ghost use Rattle.sheet.specs.Kinds.{kind_number};
+ghost use Rattle.sheet.specs.Text.{hex_digits, heading_text, refusal_text};
 
+use crate::kind::Kind;
 use std::alloc::{AllocError, Global};
+use std::fmt;
 
 // What a listing tells of a closed table before its values: `largest` is the bits of its largest size.
-#[derive(Clone, Copy)]
+#[derive(Clone, Copy, PartialEq, Eq, Debug)]
 pub struct Heading {
-    pub kind: u8,
+    pub kind: Kind,
     pub side: usize,
     pub largest: u64,
 }
 
-// The last hexadecimal digit of `bits`.
-fn hex_digit(bits: u64) -> char
-    ensures value { result ≡ hex_digit (bits % 16) }
-{
-    let d = (bits % 16) as u8;
-    (if d < 10 { 48 + d } else { 55 + d }) as char
+// What a listing tells of a refusal.
+#[derive(Clone, Copy, PartialEq, Eq, Debug)]
+pub struct Refused {
+    pub number: u8,
+    pub place: usize,
 }
 
-// Adds the last `count` hexadecimal digits of `bits`.
-fn push_hex(text: &mut String, count: u8, bits: u64) -> Result<(), AllocError>
-    ensures digits { OnOk result (string_bytes text.new ≡ string_bytes text.old ++ hex_digits count bits) }
-{
-    if count == 0 {
-        return Ok(());
+impl fmt::Display for Kind {
+    ghost output = { λ kind. Some (decimal (kind_number kind)) };
+
+    fn fmt<W: fmt::Write>(&self, f: &mut fmt::Formatter<W>) -> fmt::Result {
+        let number = u8::from(*self);
+        write!(f, "{number}")
     }
-    push_hex(text, count - 1, bits / 16)?;
-    text.push(hex_digit(bits))?;
-    Ok(())
+}
+
+impl fmt::Display for Heading {
+    ghost output = { λ h. Some (heading_text (kind_number h.kind) h.side h.largest) };
+
+    fn fmt<W: fmt::Write>(&self, f: &mut fmt::Formatter<W>) -> fmt::Result {
+        let Heading {
+            kind,
+            side,
+            largest,
+        } = *self;
+        write!(f, "kind {kind} side {side} largest {largest:016X}")
+    }
+}
+
+impl fmt::Display for Refused {
+    ghost output = { λ r. Some (refusal_text r.number r.place) };
+
+    fn fmt<W: fmt::Write>(&self, f: &mut fmt::Formatter<W>) -> fmt::Result {
+        let Refused { number, place } = *self;
+        write!(f, "refused {number} at {place}")
+    }
 }
 
 // Sixteen capital hexadecimal digits.
 pub fn hex16(heap: Global, bits: u64) -> Result<String, AllocError>
     ensures digits { IfOk result (λ s. string_bytes s ≡ hex_digits 16 bits) }
 {
-    let mut text = String::new(heap);
-    push_hex(&mut text, 16, bits)?;
-    Ok(text)
+    format!(in heap; "{bits:016X}")
 }
 
 pub fn heading_line(heap: Global, heading: Heading) -> Result<String, AllocError>
-    ensures text { IfOk result (λ s. string_bytes s ≡ heading_text heading.kind heading.side heading.largest) }
+    ensures text { IfOk result (λ s. string_bytes s ≡ heading_text (kind_number heading.kind) heading.side heading.largest) }
 {
-    let kind = heading.kind;
-    let side = heading.side;
-    let largest = hex16(heap, heading.largest)?;
-    format!(in heap; "kind {kind} side {side} largest {largest}")
+    heading.to_string(heap)
 }
 
 pub fn refusal_line(heap: Global, number: u8, place: usize) -> Result<String, AllocError>
     ensures text { IfOk result (λ s. string_bytes s ≡ refusal_text number place) }
 {
-    format!(in heap; "refused {number} at {place}")
+    Refused { number, place }.to_string(heap)
 }

@@ -4,23 +4,23 @@ use Rattle.sheet.specs.Faults.{why}
 use Rattle.sheet.proofs.Runs.{fewer, list_broken, list_ended, list_more, numbered_room}
 use Rattle.sheet.proofs.list.list_tables.Goals as goal
 
-pub returns-in-Ended : goal.returns-in-Ended
-returns-in-Ended c = record {
+pub returns-in-Ok-None : goal.returns-in-Ok-None
+returns-in-Ok-None c = record {
   listing =
       list_ended c.args.sheet.now (vec_items c.tables.headings) c.tables.place c.tables.invariant
-      (rw c.in-Ended.is at c.in-Ok.ensures.reading);
+      (rw c.in-Ok-None.field-0-is at c.in-Ok-None.ensures.reading);
 }
 
 pub tables-smaller : goal.tables-smaller
 tables-smaller c =
-    fewer _ c.args.sheet.now c.tables.place c.in-Closed.after (table_of c.in-Closed.table)
-    (rw c.in-Closed.is at c.in-Ok.ensures.reading)
+    fewer _ c.args.sheet.now c.tables.place c.in-Ok-Some.reading.after (table_of c.in-Ok-Some.reading.table)
+    (rw c.in-Ok-Some.field-0-is at c.in-Ok-Some.ensures.reading)
 
 pub tables-preserved : goal.tables-preserved
 tables-preserved c =
-    list_more c.args.sheet.now (vec_items c.tables.headings) c.tables.place c.tables.invariant (table_of c.in-Closed.table)
-    c.in-Closed.after (vec_items c.push.new.self) (rw c.in-Closed.is at c.in-Ok.ensures.reading)
-    (rw c.heading_of.ensures.heading at c.in_ok-push-in-Closed.ensures.items)
+    list_more c.args.sheet.now (vec_items c.tables.headings) c.tables.place c.tables.invariant (table_of c.in-Ok-Some.reading.table)
+    c.in-Ok-Some.reading.after (vec_items c.push.new.self) (rw c.in-Ok-Some.field-0-is at c.in-Ok-Some.ensures.reading)
+    (rw c.heading_of.ensures.heading at c.in_ok-push-in-Ok-Some.ensures.items)
 
 pub returns-in-Some : goal.returns-in-Some
 returns-in-Some c = record {
