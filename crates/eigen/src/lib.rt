@@ -7,6 +7,7 @@ mod chase;
 mod delimit;
 mod eigenvalues;
 mod ends;
+mod faults;
 mod givens;
 mod passes;
 mod settling;
