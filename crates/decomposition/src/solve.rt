@@ -17,10 +17,10 @@ use tridiagonal::assemble;
 // The values of what a reduction left.
 fn values_of<T: Scalar>(
     heap: Global,
-    form: Form<T, T::Real>,
+    form: Form<T>,
     tolerance: T::Real,
     limit: u32,
-) -> Result<Solved<T, T::Real>, Failure>
+) -> Result<Solved<T>, Failure>
     requires { Fits (form_of form) }
     ensures solution { solution_of result ≡ given_room (had_room result)
         (settled_form (kind T.Arithmetic.ops T.Real.Arithmetic.ops T.Real.RealScalar.real) false (form_of form) tolerance limit) }
@@ -55,10 +55,10 @@ fn values_of<T: Scalar>(
 // The values, and the vectors: the rows of Q, turned along.
 fn vectors_of<T: Scalar>(
     heap: Global,
-    form: Form<T, T::Real>,
+    form: Form<T>,
     tolerance: T::Real,
     limit: u32,
-) -> Result<Solved<T, T::Real>, Failure>
+) -> Result<Solved<T>, Failure>
     requires { Fits (form_of form) }
     ensures solution { solution_of result ≡ given_room (had_room result)
         (settled_form (kind T.Arithmetic.ops T.Real.Arithmetic.ops T.Real.RealScalar.real) true (form_of form) tolerance limit) }
@@ -100,7 +100,7 @@ pub fn symmetric_eigenvalues<T: Scalar>(
     table: Vec<T>,
     tolerance: T::Real,
     limit: u32,
-) -> Result<Solved<T, T::Real>, Failure>
+) -> Result<Solved<T>, Failure>
     ensures solution { solution_of result ≡ given_room (had_room result)
         (solution (kind T.Arithmetic.ops T.Real.Arithmetic.ops T.Real.RealScalar.real) false n table.items tolerance limit) }
     ensures counts { IfOk result (Counts n 0) }
@@ -116,7 +116,7 @@ pub fn symmetric_eigen<T: Scalar>(
     table: Vec<T>,
     tolerance: T::Real,
     limit: u32,
-) -> Result<Solved<T, T::Real>, Failure>
+) -> Result<Solved<T>, Failure>
     ensures solution { solution_of result ≡ given_room (had_room result)
         (solution (kind T.Arithmetic.ops T.Real.Arithmetic.ops T.Real.RealScalar.real) true n table.items tolerance limit) }
     ensures counts { IfOk result (Counts n (n * n)) }

@@ -1,11 +1,12 @@
 // What a decomposition gives, in a file of its own: the definitions of solutions name it.
+use scalar::Scalar;
 
 // The largest size of the table, the passes made, the eigenvalues as they come, and the eigenvectors, which are the columns of a
 // matrix that stands column by column; none of them where only the values were asked.
 #[derive(Drop)]
-pub struct Solved<T: Copy, R: Copy> {
-    pub largest: R,
+pub struct Solved<T: Scalar> {
+    pub largest: T::Real,
     pub passes: u32,
-    pub values: Vec<R>,
+    pub values: Vec<T::Real>,
     pub vectors: Vec<T>,
 }

@@ -1,16 +1,13 @@
 // The steps of a decomposition.
-ghost use Rattle.std.specs.Prelude.{◌≡◌, Err};
-ghost use Rattle.fault.specs.Refusals.{refusal};
-ghost use Rattle.rows.specs.Keepers.{answered, denied};
+ghost use Rattle.rows.specs.Keepers.{answered};
 ghost use Rattle.eigen.specs.Laws.{IsRun, start_of, finish_of};
-ghost use Rattle.eigen.specs.Unsettled.{answer_of};
 ghost use Rattle.tridiagonal.specs.Householder.{kind};
 ghost use Rattle.decomposition.specs.Forms.{Reduces};
 
 use crate::buffers::zeros;
 use crate::failure::Failure;
 use crate::form::Form;
-use eigen::{Unsettled, settle};
+use eigen::settle;
 use fault::Fault;
 use rows::Keeper;
 use scalar::{Arithmetic, RealScalar, Scalar};
@@ -22,7 +19,7 @@ pub(crate) fn reduced<T: Scalar>(
     heap: Global,
     n: usize,
     mut table: Vec<T>,
-) -> Result<Form<T, T::Real>, Failure>
+) -> Result<Form<T>, Failure>
     ensures form { Reduces (kind T.Arithmetic.ops T.Real.Arithmetic.ops T.Real.RealScalar.real) n table.items result }
 {
     if n == 0 || n > 512 {
@@ -49,21 +46,7 @@ pub(crate) fn reduced<T: Scalar>(
     })
 }
 
-// The refusal of a settling, whether it hands the reduction back or not.
-fn fault_of<R>(why: Unsettled<R>) -> Fault
-where
-    R: Copy,
-    ensures fault { answer_of (Err why) ≡ denied (refusal result) }
-{
-    match why {
-        Unsettled::Refused {
-            fault,
-            reduction: _,
-        } => fault,
-        Unsettled::Ended { fault } => fault,
-    }
-}
-
+// Settles a reduction, with the refusal alone where it does not settle.
 pub(crate) fn settled<T: Scalar, K: Keeper<T>>(
     reduction: Reduction<T::Real>,
     values: &mut [T::Real],
@@ -77,8 +60,6 @@ pub(crate) fn settled<T: Scalar, K: Keeper<T>>(
         (K.Keeper.kept keeper.old)) limit
         (finish_of (answered result) values.new offs.new (K.Keeper.kept keeper.new)) }
 {
-    match settle::<T, K>(reduction, values, offs, keeper, tolerance, limit) {
-        Ok(passes) => Ok(passes),
-        Err(why) => Err(fault_of(why)),
-    }
+    let passes = settle::<T, K>(reduction, values, offs, keeper, tolerance, limit)?;
+    Ok(passes)
 }

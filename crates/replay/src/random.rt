@@ -10,22 +10,12 @@ impl Random {
         Random { state: seed }
     }
 
-    fn next(&mut self) -> u64 {
+    pub(crate) fn next(&mut self) -> u64 {
         self.state = self.state.wrapping_add(0x9E37_79B9_7F4A_7C15);
         let mut z = self.state;
         z = (z ^ (z >> 30)).wrapping_mul(0xBF58_476D_1CE4_E5B9);
         z = (z ^ (z >> 27)).wrapping_mul(0x94D0_49BB_1331_11EB);
         z ^ (z >> 31)
-    }
-
-    // A number from -1 up to 1, of 53 binary digits.
-    pub(crate) fn unit_f64(&mut self) -> f64 {
-        std::num::nearest_u64_to_f64(self.next() >> 11) / 4503599627370496.0 - 1.0
-    }
-
-    // A number from -1 up to 1, of 24 binary digits.
-    pub(crate) fn unit_f32(&mut self) -> f32 {
-        std::num::nearest_u64_to_f32(self.next() >> 40) / 8388608.0 - 1.0
     }
 }
 
@@ -42,25 +32,10 @@ impl Hash {
         }
     }
 
-    fn byte(self, b: u8) -> Hash {
-        Hash {
-            state: (self.state ^ u64::from(b)).wrapping_mul(0x100_0000_01B3),
-        }
-    }
-
-    pub(crate) fn wide(self, bits: u64) -> Hash {
-        let mut h = self;
-        for b in bits.to_le_bytes() {
-            h = h.byte(b);
-        }
-        h
-    }
-
-    pub(crate) fn narrow(self, bits: u32) -> Hash {
-        let mut h = self;
-        for b in bits.to_le_bytes() {
-            h = h.byte(b);
-        }
-        h
+    pub(crate) fn bytes(self, bytes: &[u8]) -> Hash {
+        let state = bytes.iter().fold(self.state, |state, b| {
+            (state ^ u64::from(*b)).wrapping_mul(0x100_0000_01B3)
+        });
+        Hash { state }
     }
 }

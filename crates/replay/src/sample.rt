@@ -1,140 +1,89 @@
 // The kinds that are compared: how a number is drawn, made smaller, and fed to the hash.
 use crate::random::{Hash, Random};
-use scalar::{Arithmetic, Complex, Scalar};
+use scalar::{Arithmetic, Complex, RealScalar, Scalar};
 use std::num::{
     f32_from_bits_with_nan, f32_to_bits_with_nan, f64_from_bits_with_nan, f64_to_bits_with_nan,
+    nearest_u64_to_f32, nearest_u64_to_f64,
 };
 
-pub(crate) trait Sample: Scalar {
-    fn draw(random: &mut Random, diagonal: bool) -> Self;
+// A number whose bits are hashed.
+pub(crate) trait Feed: Copy {
+    fn feed(self, hash: Hash) -> Hash;
+}
+
+pub(crate) trait RealSample: RealScalar + Feed {
+    const FOUR: Self;
+
+    const TOLERANCE: Self;
+
+    // A number from -1 up to 1, of all its binary digits.
+    fn unit(random: &mut Random) -> Self;
 
     // 2^-k, for a k below 127
-    fn power(k: u32) -> Self::Real;
-
-    fn four() -> Self::Real;
-
-    // The tolerance is 2^-k for this k.
-    fn fineness() -> u32;
-
-    fn feed(self, hash: Hash) -> Hash;
-
-    fn feed_real(x: Self::Real, hash: Hash) -> Hash;
+    fn power(k: u32) -> Self;
 }
 
-fn power_f64(k: u32) -> f64 {
-    f64_from_bits_with_nan((1023 - u64::from(k % 1023)) << 52)
+// A kind over a real kind that can be drawn. A real kind's numbers are all drawn as those of a diagonal are.
+pub(crate) trait Sample: Scalar<Real: RealSample> + Feed {
+    fn draw(random: &mut Random, _diagonal: bool) -> Self {
+        Self::from_real(Self::Real::unit(random))
+    }
 }
 
-fn power_f32(k: u32) -> f32 {
-    f32_from_bits_with_nan((127 - k % 127) << 23)
+impl Feed for f64 {
+    fn feed(self, hash: Hash) -> Hash {
+        hash.bytes(&f64_to_bits_with_nan(self).to_le_bytes())
+    }
 }
 
-impl Sample for f64 {
-    fn draw(random: &mut Random, _diagonal: bool) -> f64 {
-        random.unit_f64()
+impl Feed for f32 {
+    fn feed(self, hash: Hash) -> Hash {
+        hash.bytes(&f32_to_bits_with_nan(self).to_le_bytes())
+    }
+}
+
+impl<R: RealSample> Feed for Complex<R> {
+    fn feed(self, hash: Hash) -> Hash {
+        self.im.feed(self.re.feed(hash))
+    }
+}
+
+impl RealSample for f64 {
+    const FOUR: f64 = 4.0;
+
+    const TOLERANCE: f64 = f64::EPSILON;
+
+    fn unit(random: &mut Random) -> f64 {
+        nearest_u64_to_f64(random.next() >> 11) / 4503599627370496.0 - 1.0
     }
 
     fn power(k: u32) -> f64 {
-        power_f64(k)
-    }
-
-    fn four() -> f64 {
-        4.0
-    }
-
-    fn fineness() -> u32 {
-        52
-    }
-
-    fn feed(self, hash: Hash) -> Hash {
-        hash.wide(f64_to_bits_with_nan(self))
-    }
-
-    fn feed_real(x: f64, hash: Hash) -> Hash {
-        hash.wide(f64_to_bits_with_nan(x))
+        f64_from_bits_with_nan((1023 - u64::from(k % 1023)) << 52)
     }
 }
 
-impl Sample for f32 {
-    fn draw(random: &mut Random, _diagonal: bool) -> f32 {
-        random.unit_f32()
+impl RealSample for f32 {
+    const FOUR: f32 = 4.0;
+
+    const TOLERANCE: f32 = f32::EPSILON;
+
+    fn unit(random: &mut Random) -> f32 {
+        nearest_u64_to_f32(random.next() >> 40) / 8388608.0 - 1.0
     }
 
     fn power(k: u32) -> f32 {
-        power_f32(k)
-    }
-
-    fn four() -> f32 {
-        4.0
-    }
-
-    fn fineness() -> u32 {
-        23
-    }
-
-    fn feed(self, hash: Hash) -> Hash {
-        hash.narrow(f32_to_bits_with_nan(self))
-    }
-
-    fn feed_real(x: f32, hash: Hash) -> Hash {
-        hash.narrow(f32_to_bits_with_nan(x))
+        f32_from_bits_with_nan((127 - k % 127) << 23)
     }
 }
 
-impl Sample for Complex<f64> {
-    fn draw(random: &mut Random, diagonal: bool) -> Complex<f64> {
-        let re = random.unit_f64();
-        let im = if diagonal { 0.0 } else { random.unit_f64() };
+impl Sample for f64 {}
+
+impl Sample for f32 {}
+
+impl<R: RealSample> Sample for Complex<R> {
+    fn draw(random: &mut Random, diagonal: bool) -> Complex<R> {
+        let re = R::unit(random);
+        let im = if diagonal { R::zero() } else { R::unit(random) };
         Complex { re, im }
-    }
-
-    fn power(k: u32) -> f64 {
-        power_f64(k)
-    }
-
-    fn four() -> f64 {
-        4.0
-    }
-
-    fn fineness() -> u32 {
-        52
-    }
-
-    fn feed(self, hash: Hash) -> Hash {
-        hash.wide(f64_to_bits_with_nan(self.re))
-            .wide(f64_to_bits_with_nan(self.im))
-    }
-
-    fn feed_real(x: f64, hash: Hash) -> Hash {
-        hash.wide(f64_to_bits_with_nan(x))
-    }
-}
-
-impl Sample for Complex<f32> {
-    fn draw(random: &mut Random, diagonal: bool) -> Complex<f32> {
-        let re = random.unit_f32();
-        let im = if diagonal { 0.0 } else { random.unit_f32() };
-        Complex { re, im }
-    }
-
-    fn power(k: u32) -> f32 {
-        power_f32(k)
-    }
-
-    fn four() -> f32 {
-        4.0
-    }
-
-    fn fineness() -> u32 {
-        23
-    }
-
-    fn feed(self, hash: Hash) -> Hash {
-        hash.narrow(f32_to_bits_with_nan(self.re))
-            .narrow(f32_to_bits_with_nan(self.im))
-    }
-
-    fn feed_real(x: f32, hash: Hash) -> Hash {
-        hash.narrow(f32_to_bits_with_nan(x))
     }
 }

@@ -1,88 +1,82 @@
 // Seeded tables: the entries on and below the diagonal are drawn column by column.
 use crate::random::Random;
-use crate::sample::Sample;
+use crate::sample::{RealSample, Sample};
+use scalar::Arithmetic;
 use std::alloc::{AllocError, Global};
 
-#[derive(Clone, Copy)]
+#[derive(Clone, Copy, PartialEq, Eq)]
 pub(crate) enum Shape {
     Dense,
+    // dense, with the entries above the diagonal drawn too: the others have the conjugates there
+    OwnUpper,
     // zero below the first subdiagonal
     Banded,
     // the entry at row r and column c times 2^-(r + c)
     Graded,
 }
 
+impl Shape {
+    fn shaped<T: Sample>(self, x: T, row: usize, column: usize) -> T {
+        match self {
+            Shape::Banded if row.wrapping_sub(column) > 1 => T::zero(),
+            Shape::Dense | Shape::OwnUpper | Shape::Banded => x,
+            Shape::Graded => x.scale(T::Real::power((row.wrapping_add(column) % 127) as u32)),
+        }
+    }
+}
+
 #[derive(Clone, Copy)]
 pub(crate) struct Case {
-    pub side: usize,
-    pub seed: u64,
-    // whether the entries above the diagonal are drawn too, and not the conjugates
-    pub own: bool,
-    pub shape: Shape,
+    pub(crate) side: usize,
+    pub(crate) seed: u64,
+    pub(crate) shape: Shape,
 }
 
-fn put<T: Copy>(cells: &mut [T], at: usize, x: T) {
-    if at < cells.len() {
-        cells[at] = x;
-    }
+// A square table, column by column.
+#[derive(Drop)]
+struct Table<T: Sample> {
+    side: usize,
+    cells: Vec<T>,
 }
 
-fn place(side: usize, row: usize, column: usize) -> usize {
-    row.wrapping_add(column.wrapping_mul(side))
-}
-
-fn shaped<T: Sample>(x: T, shape: Shape, row: usize, column: usize) -> T {
-    match shape {
-        Shape::Dense => x,
-        Shape::Banded => {
-            if row.wrapping_sub(column) > 1 {
-                T::zero()
-            } else {
-                x
-            }
+impl<T: Sample> Table<T> {
+    fn put(&mut self, row: usize, column: usize, x: T) {
+        let at = row.wrapping_add(column.wrapping_mul(self.side));
+        if let Some(cell) = self.cells.get_mut(at) {
+            *cell = x;
         }
-        Shape::Graded => x.scale(T::power((row.wrapping_add(column) % 127) as u32)),
     }
-}
 
-fn fill_column<T: Sample>(cells: &mut [T], random: &mut Random, case: Case, column: usize) {
-    for row in column..case.side {
-        let x = shaped(T::draw(random, row == column), case.shape, row, column);
-        put(cells, place(case.side, column, row), x.conjugate());
-        put(cells, place(case.side, row, column), x);
+    fn fill_column(&mut self, random: &mut Random, shape: Shape, column: usize) {
+        for row in column..self.side {
+            let x = shape.shaped(T::draw(random, row == column), row, column);
+            self.put(column, row, x.conjugate());
+            self.put(row, column, x);
+        }
     }
-}
 
-fn fill_above<T: Sample>(cells: &mut [T], random: &mut Random, side: usize, column: usize) {
-    for row in column..side {
-        if row > column {
-            put(
-                cells,
-                place(side, column, row),
-                T::draw(random, false).scale(T::four()),
-            );
+    // Row `column` to the right of the diagonal.
+    fn fill_above(&mut self, random: &mut Random, column: usize) {
+        for row in column.saturating_add(1)..self.side {
+            self.put(column, row, T::draw(random, false).scale(T::Real::FOUR));
         }
     }
 }
 
 pub(crate) fn drawn<T: Sample>(heap: Global, case: Case) -> Result<Vec<T>, AllocError> {
-    let mut random = Random::new(case.seed);
-    let mut cells = filled(heap, case.side.wrapping_mul(case.side), T::zero())?;
-    for column in 0..case.side {
-        fill_column(&mut cells, &mut random, case, column);
+    let Case { side, seed, shape } = case;
+    let mut random = Random::new(seed);
+    let mut table = Table {
+        side,
+        cells: vec![in heap; T::zero(); side.wrapping_mul(side)]?,
+    };
+    for column in 0..side {
+        table.fill_column(&mut random, shape, column);
     }
-    if case.own {
-        for column in 0..case.side {
-            fill_above(&mut cells, &mut random, case.side, column);
+    if shape == Shape::OwnUpper {
+        for column in 0..side {
+            table.fill_above(&mut random, column);
         }
     }
-    Ok(cells)
-}
-
-pub(crate) fn filled<T: Copy>(heap: Global, count: usize, x: T) -> Result<Vec<T>, AllocError> {
-    let mut cells = Vec::new(heap);
-    for _ in 0..count {
-        cells.push(x)?;
-    }
-    Ok(cells)
+    Ok(table.cells)
 }
