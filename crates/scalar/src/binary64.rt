@@ -5,7 +5,7 @@ ghost use Rattle.std.specs.Float.Ieee.{neg};
 ghost use Rattle.scalar.specs.FloatOps.{float_ops, float_real, two_of, half_of};
 ghost use Rattle.scalar.specs.Lawful.{float_larger, opposite_two};
 
-use crate::kinds::{Arithmetic, RealScalar, Scalar};
+use crate::kinds::{Arithmetic, RealScalar};
 
 fn absolute(x: f64) -> f64
     ensures value { result ≡ float_with_sign false x }
@@ -150,13 +150,5 @@ impl RealScalar for f64 {
 
     fn abs(self) -> f64 {
         absolute(self)
-    }
-}
-
-impl Scalar for f64 {
-    type Real = f64;
-
-    fn size(self) -> f64 {
-        <f64 as RealScalar>::abs(self)
     }
 }
