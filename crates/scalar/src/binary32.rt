@@ -1,17 +1,11 @@
 // The kind binary32: each operation of `f32` rounds once, to nearest, ties to even.
-ghost use Rattle.std.specs.Prelude.{◌≡◌, false, refl};
-ghost use Rattle.std.specs.Float.{float_with_sign, binary32};
+ghost use Rattle.std.specs.Prelude.{refl};
+ghost use Rattle.std.specs.Float.{binary32};
 ghost use Rattle.std.specs.Float.Ieee.{neg};
 ghost use Rattle.scalar.specs.FloatOps.{float_ops, float_real, two_of, half_of};
 ghost use Rattle.scalar.specs.Lawful.{float_larger, opposite_two};
 
 use crate::kinds::{Arithmetic, RealScalar};
-
-fn absolute(x: f32) -> f32
-    ensures value { result ≡ float_with_sign false x }
-{
-    x.abs()
-}
 
 impl Arithmetic for f32 {
     type Part = f32;
@@ -67,7 +61,7 @@ impl Arithmetic for f32 {
     }
 
     fn modulus(self) -> f32 {
-        absolute(self)
+        self.abs()
     }
 
     // Both zeros count as at or above zero here; `signum` tells them apart.
@@ -149,6 +143,6 @@ impl RealScalar for f32 {
     }
 
     fn abs(self) -> f32 {
-        absolute(self)
+        self.modulus()
     }
 }
