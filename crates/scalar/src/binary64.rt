@@ -1,4 +1,5 @@
 // The kind binary64: each operation of `f64` rounds once, to nearest, ties to even.
+// Each format apart: most bodies are one operator, of which an impl over both needs a law; a function on `RealScalar` leads back here.
 ghost use Rattle.std.specs.Prelude.{refl};
 ghost use Rattle.std.specs.Float.{binary64};
 ghost use Rattle.std.specs.Float.Ieee.{neg};
