@@ -7,6 +7,7 @@ use crate::digits::nearest_root;
 use crate::format::Binary;
 
 // How many binary digits a number has.
+#[tactic(auto, using(crate::proofs::Windows::leading_size))]
 fn size_of(m: u64) -> u64
     ensures { result ≡ size m }
 {
@@ -14,6 +15,7 @@ fn size_of(m: u64) -> u64
 }
 
 // The digits of m from the top of a word down, behind a zero where the place is even.
+#[tactic(auto, using(crate::proofs::Windows::window_is))]
 fn window_of(m: u64, place: u64) -> u64
     requires { (0 < m) × (m < 2 ^ 63) }
     ensures { result ≡ m * 2 ^ (63 - size m + place % 2) }

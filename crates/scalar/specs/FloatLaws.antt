@@ -21,7 +21,7 @@ is_size f x = fits f x && (float_is_finite x && not (is_sign_negative x))
 
 -- ---- what the test says
 
-sized : (f : Format) (x : Float) → T (fits f x) → T (float_is_finite x) → T (not (is_sign_negative x)) → T (is_size f x)
+pub sized : (f : Format) (x : Float) → T (fits f x) → T (float_is_finite x) → T (not (is_sign_negative x)) → T (is_size f x)
 sized f x p q r = and_i (fits f x) (float_is_finite x && not (is_sign_negative x)) p (and_i (float_is_finite x) (not (is_sign_negative x)) q r)
 
 size_fits : (f : Format) (x : Float) → T (is_size f x) → T (fits f x)
@@ -202,7 +202,7 @@ unsigned_fits f (inf s) h = tt
 unsigned_fits f (fin s zero e) h = h
 unsigned_fits f (fin s (suc m) e) h = h
 
-unsigned : (x : Float) → T (not (is_sign_negative (float_with_sign false x)))
+pub unsigned : (x : Float) → T (not (is_sign_negative (float_with_sign false x)))
 unfolding is_sign_negative float_with_sign
 unsigned nan = tt
 unsigned (inf s) = tt

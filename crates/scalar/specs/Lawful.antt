@@ -3,10 +3,10 @@ use Rattle.std.specs.Prelude.{◌≡◌, true, false, not, ◌&&◌, T, refl, Fl
 use Rattle.std.proofs.Common.{sym, ap, ◌∙◌, subst}
 use Rattle.std.specs.Float.Ieee.{neg, add, fits, of_bits, of_fields, odd}
 use lib.Count.{count_trailing_zeros}
-use Rattle.std.specs.Float.Ieee.Fits.{and_i, and_l, and_r}
+use Rattle.std.specs.Float.Ieee.Fits.{and_l, and_r}
 use Rattle.std.specs.Float.{float_is_finite, is_sign_negative, float_with_sign, Format, binary32, binary64, nan, inf, fin}
 use Rattle.scalar.specs.Ops.{Ops, RealOps, LargerLaws, RealLaws, SizeLaws}
-use Rattle.scalar.specs.FloatLaws.{is_size, most_size, most_comm, most_assoc, most_idem, most_zero}
+use Rattle.scalar.specs.FloatLaws.{is_size, sized, unsigned, most_size, most_comm, most_assoc, most_idem, most_zero}
 use Rattle.scalar.specs.FloatLaws.{zero_bits, zero_size, abs_neg, add_size, add_zero_zero}
 use Rattle.scalar.specs.FloatOps.{zero_of, two_of, minus_two_of, float_ops, float_real}
 use Rattle.scalar.specs.ComplexOps.{complex_ops}
@@ -17,17 +17,10 @@ size_finite f x t = and_l (float_is_finite x) (not (is_sign_negative x)) (and_r 
 pub float_larger : (f : Format) → LargerLaws (float_real f)
 float_larger f = record { finite = size_finite f; closed = most_size f; comm = most_comm f; assoc = most_assoc f; idem = most_idem f }
 
-no_sign : (x : Float) → T (not (is_sign_negative (float_with_sign false x)))
-unfolding is_sign_negative float_with_sign
-no_sign nan = tt
-no_sign (inf s) = tt
-no_sign (fin s m e) = tt
-
 -- an absolute value that is finite is a size
 pub float_sized : (f : Format) (x r : Float) → fits f r ≡ true → r ≡ float_with_sign false x → T (float_is_finite r) → T (is_size f r)
 float_sized f x r ok e t =
-    and_i (fits f r) (float_is_finite r && not (is_sign_negative r)) (subst T (sym ok) tt)
-    (and_i (float_is_finite r) (not (is_sign_negative r)) t (subst (λ (y : Float). T (not (is_sign_negative y))) (sym e) (no_sign x)))
+    sized f r (subst T (sym ok) tt) t (subst (λ (y : Float). T (not (is_sign_negative y))) (sym e) (unsigned x))
 
 -- a finite sum has finite summands
 summands_of : (f : Format) (x y : Float) → T (float_is_finite (add f x y)) → T (float_is_finite x) × T (float_is_finite y)

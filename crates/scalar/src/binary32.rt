@@ -1,17 +1,12 @@
 // The kind binary32: each operation of `f32` rounds once, to nearest, ties to even.
-ghost use Rattle.std.specs.Prelude.{◌≡◌, false, refl};
-ghost use Rattle.std.specs.Float.{float_with_sign, binary32};
+// Each format apart: most bodies are one operator, of which an impl over both needs a law; a function on `RealScalar` leads back here.
+ghost use Rattle.std.specs.Prelude.{refl};
+ghost use Rattle.std.specs.Float.{binary32};
 ghost use Rattle.std.specs.Float.Ieee.{neg};
 ghost use Rattle.scalar.specs.FloatOps.{float_ops, float_real, two_of, half_of};
 ghost use Rattle.scalar.specs.Lawful.{float_larger, opposite_two};
 
-use crate::kinds::{Arithmetic, RealScalar, Scalar};
-
-fn absolute(x: f32) -> f32
-    ensures value { result ≡ float_with_sign false x }
-{
-    x.abs()
-}
+use crate::kinds::{Arithmetic, RealScalar};
 
 impl Arithmetic for f32 {
     type Part = f32;
@@ -67,7 +62,7 @@ impl Arithmetic for f32 {
     }
 
     fn modulus(self) -> f32 {
-        absolute(self)
+        self.abs()
     }
 
     // Both zeros count as at or above zero here; `signum` tells them apart.
@@ -149,14 +144,6 @@ impl RealScalar for f32 {
     }
 
     fn abs(self) -> f32 {
-        absolute(self)
-    }
-}
-
-impl Scalar for f32 {
-    type Real = f32;
-
-    fn size(self) -> f32 {
-        <f32 as RealScalar>::abs(self)
+        self.modulus()
     }
 }

@@ -1,17 +1,12 @@
 // The kind binary64: each operation of `f64` rounds once, to nearest, ties to even.
-ghost use Rattle.std.specs.Prelude.{◌≡◌, false, refl};
-ghost use Rattle.std.specs.Float.{float_with_sign, binary64};
+// Each format apart: most bodies are one operator, of which an impl over both needs a law; a function on `RealScalar` leads back here.
+ghost use Rattle.std.specs.Prelude.{refl};
+ghost use Rattle.std.specs.Float.{binary64};
 ghost use Rattle.std.specs.Float.Ieee.{neg};
 ghost use Rattle.scalar.specs.FloatOps.{float_ops, float_real, two_of, half_of};
 ghost use Rattle.scalar.specs.Lawful.{float_larger, opposite_two};
 
-use crate::kinds::{Arithmetic, RealScalar, Scalar};
-
-fn absolute(x: f64) -> f64
-    ensures value { result ≡ float_with_sign false x }
-{
-    x.abs()
-}
+use crate::kinds::{Arithmetic, RealScalar};
 
 impl Arithmetic for f64 {
     type Part = f64;
@@ -67,7 +62,7 @@ impl Arithmetic for f64 {
     }
 
     fn modulus(self) -> f64 {
-        absolute(self)
+        self.abs()
     }
 
     // Both zeros count as at or above zero here; `signum` tells them apart.
@@ -149,14 +144,6 @@ impl RealScalar for f64 {
     }
 
     fn abs(self) -> f64 {
-        absolute(self)
-    }
-}
-
-impl Scalar for f64 {
-    type Real = f64;
-
-    fn size(self) -> f64 {
-        <f64 as RealScalar>::abs(self)
+        self.modulus()
     }
 }

@@ -124,3 +124,12 @@ pub trait Scalar: Arithmetic<Part = Self::Real> {
         ensures sized { T (Self.Real.RealScalar.real.is_finite result) → T (Self.Real.RealScalar.real.is_size result) }
         ensures laws { SizeLaws Self.Arithmetic.ops Self.Real.RealScalar.real };
 }
+
+// A real kind's sizes are its absolute values.
+impl<R: RealScalar> Scalar for R {
+    type Real = R;
+
+    fn size(self) -> R {
+        self.abs()
+    }
+}

@@ -1,36 +1,12 @@
-use Rattle.std.proofs.Common.{ℕ, ◌+◌, ◌-◌, ◌*◌, ◌/◌, ◌^◌, ◌≤◌, ◌∙◌, subst, arith}
+use Rattle.std.proofs.Common.{ℕ, ◌+◌, ◌-◌, ◌*◌, ◌/◌, ◌^◌, ◌∙◌, subst, arith}
 use Rattle.root.specs.Whole.{Floor}
 use Rattle.root.proofs.Drawing.{small, small_next, Stepped, stepped, same_number}
 use Rattle.root.proofs.digits.+draw.Goals as goal
-
-room : (t : ℕ) (c : goal.Else-left-eq0 t) → c.args.root + 1 ≤ 2 ^ 59
-room t c = small c.args.root c.args.left (omega arith) c.requires.1
 
 step : (t : ℕ) (c : goal.After-digit-next t)
     → Stepped c.args.root (4 * c.args.rest + c.args.window / 2 ^ 62) c.digit-next.result
 step t c =
     stepped c.args.root (4 * c.args.rest + c.args.window / 2 ^ 62) c.digit-next.result (omega arith) c.digit-next.ensures
-
-pub overflow_mul-tail : goal.overflow_mul-tail
-overflow_mul-tail t c = omega (arith, room t c)
-
-pub overflow_add-tail : goal.overflow_add-tail
-overflow_add-tail t c = omega (arith, room t c)
-
-pub digit-next-requires : goal.digit-next-requires
-digit-next-requires t c = omega (arith, room t c)
-
-pub overflow_mul-root : goal.overflow_mul-root
-overflow_mul-root t c = omega (arith, small c.args.root c.args.left (omega arith) c.requires.1)
-
-pub overflow_add-root : goal.overflow_add-root
-overflow_add-root t c = omega (arith, small c.args.root c.args.left (omega arith) c.requires.1, step t c)
-
-pub overflow_mul-root-2 : goal.overflow_mul-root-2
-overflow_mul-root-2 t c = omega (arith, small c.args.root c.args.left (omega arith) c.requires.1)
-
-pub overflow_add-root-2 : goal.overflow_add-root-2
-overflow_add-root-2 t c = omega (arith, small c.args.root c.args.left (omega arith) c.requires.1)
 
 pub overflow_mul-next : goal.overflow_mul-next
 overflow_mul-next t c = let h = (step t c).fits in omega (arith, small c.args.root c.args.left (omega arith) c.requires.1)

@@ -4,7 +4,7 @@ use Rattle.scalar.proofs.binary32.F32RealScalar.abs.Goals as goal
 
 pub returns : goal.returns
 returns c = record {
-  value = c.absolute.ensures.value;
-  sized = float_sized binary32 c.args.self c.absolute.result c.absolute.type_inv c.absolute.ensures.value;
+  value = c.modulus.ensures.value;
+  sized = float_sized binary32 c.args.self c.modulus.result c.modulus.type_inv c.modulus.ensures.value;
   laws = float_laws binary32;
 }
