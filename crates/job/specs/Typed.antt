@@ -85,18 +85,12 @@ module _ {C R : Type 0} where
 
   -- The conjugate goes above the diagonal first, so that on the diagonal the number stands as typed.
   abbrev pub placed : Ops C R → ℕ → List (Option C) → ℕ → ℕ → C → List (Option C)
-  placed ops side cells row column x = slice_set (slice_set cells (place side column row) (Some (ops.conj x))) (place side row column) (Some x)
+  placed ops side cells row column x =
+      slice_set (slice_set cells (place side column row) (Some (ops.conj x))) (place side row column) (Some x)
 
   abbrev pub written : Ops C R → RealOps R → Typed C R → ℕ → ℕ → C → Typed C R
-  written ops real j row column x = record {
-    side = j.side;
-    cells = placed ops j.side j.cells row column x;
-    tolerance = j.tolerance;
-    tolerance_given = j.tolerance_given;
-    limit = j.limit;
-    limit_given = j.limit_given;
-    largest = real.larger j.largest (ops.size x);
-  }
+  written ops real j row column x =
+      record j { cells = placed ops j.side j.cells row column x; largest = real.larger j.largest (ops.size x) }
 
   abbrev pub is_typed : Typed C R → ℕ → ℕ → Bool
   is_typed j row column = is_some (slice_index_or j.cells (place j.side row column) None)
@@ -113,33 +107,11 @@ module _ {C R : Type 0} where
   abbrev pub tolerating : Typed C R → Float → Outcome C R
   tolerating j t =
       cond (is_tolerance t)
-      (cond j.tolerance_given (Some (refused 14 []), j) (
-        None,
-        record {
-          side = j.side;
-          cells = j.cells;
-          tolerance = t;
-          tolerance_given = true;
-          limit = j.limit;
-          limit_given = j.limit_given;
-          largest = j.largest;
-        },
-      ))
+      (cond j.tolerance_given (Some (refused 14 []), j) (None, record j { tolerance = t; tolerance_given = true }))
       (Some (refused 4 []), j)
 
   abbrev pub limiting : Typed C R → ℕ → Outcome C R
   limiting j n =
       cond (is_limit n)
-      (cond j.limit_given (Some (refused 14 []), j) (
-        None,
-        record {
-          side = j.side;
-          cells = j.cells;
-          tolerance = j.tolerance;
-          tolerance_given = j.tolerance_given;
-          limit = n;
-          limit_given = true;
-          largest = j.largest;
-        },
-      ))
+      (cond j.limit_given (Some (refused 14 []), j) (None, record j { limit = n; limit_given = true }))
       (Some (refused 5 []), j)
