@@ -73,15 +73,7 @@ module _ {C R : Type 0} where
       cond (nat_lt row j.side && nat_lt column j.side) (entry_of ops (slice_index_or j.cells (place j.side row column) None)) ops.zero
 
   abbrev pub blank : Ops C R → ℕ → Typed C R
-  blank ops side = record {
-    side = side;
-    cells = replicate (side * side) None;
-    tolerance = usual_tolerance;
-    tolerance_given = false;
-    limit = usual_limit;
-    limit_given = false;
-    largest = ops.size ops.zero;
-  }
+  blank ops side = table_of side (replicate (side * side) None) None None (ops.size ops.zero)
 
   -- The conjugate goes above the diagonal first, so that on the diagonal the number stands as typed.
   abbrev pub placed : Ops C R → ℕ → List (Option C) → ℕ → ℕ → C → List (Option C)

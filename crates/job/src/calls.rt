@@ -35,14 +35,14 @@ fn untyped<T: Scalar>(heap: Global, side: usize) -> Result<Vec<Option<T>>, Alloc
 
 impl<T: Scalar> Job<T> {
     // A table of zeros, with tolerance 2^-52 and limit 1000.
-    pub fn open(heap: Global, side: usize) -> Result<Job<T>, Unopened>
+    pub fn open(heap: Global, side: usize) -> Result<Self, Unopened>
         ensures outcome { opening result ≡ opened T.ops side (had_room result) }
     {
         if !is_side(side) {
             return Err(Unopened::Operand);
         }
         let cells = untyped(heap, side)?;
-        Ok(Job {
+        Ok(Self {
             side,
             cells,
             tolerance: None,
@@ -82,7 +82,8 @@ impl<T: Scalar> Job<T> {
         self.largest
     }
 
-    // The number at a row and a column: zero where none was typed, and outside.
+    // The number at a row and a column: zero where none was typed, and outside. Both are tested, since a row
+    // outside would be read in the next column.
     pub fn entry(&self, row: usize, column: usize) -> T
         ensures value { result ≡ entry_at T.ops (typed self.now) row column }
     {
