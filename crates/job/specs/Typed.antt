@@ -1,5 +1,5 @@
 -- A table while it is typed, as plain data, and what each command makes of it. Definitions only.
-use Rattle.std.specs.Prelude.{ℕ, ◌+◌, ◌*◌, Bool, true, false, cond, ◌&&◌, List, [], ◌∷◌, map, replicate, is_some, unwrap_or, Some, None, Option, from_bits, nat_le, nat_lt, slice_index_or, slice_set, Float}
+use Rattle.std.specs.Prelude.{ℕ, ◌+◌, ◌*◌, Bool, true, cond, ◌&&◌, List, [], ◌∷◌, map, replicate, is_some, unwrap_or, Some, None, Option, from_bits, nat_le, nat_lt, slice_index_or, slice_set, Float}
 use Rattle.std.specs.Float.Ieee.{le}
 use Rattle.std.specs.Float.{float_is_finite, binary64}
 use Rattle.fault.specs.Refusals.{Refusal, refused}

@@ -5,8 +5,9 @@ ghost use Rattle.job.specs.Opening.{had_room, opened, opening};
 ghost use Rattle.job.specs.Shown.{typed};
 ghost use Rattle.job.specs.Typed.{entries, entry_at, entry_of, is_limit, is_side, is_tolerance};
 
-use crate::checks::{is_side, place_of};
+use crate::checks::is_side;
 use crate::job::Job;
+use crate::place::Place;
 use crate::rejected::Unopened;
 use scalar::{Arithmetic, RealScalar, Scalar};
 use std::alloc::{AllocError, Global};
@@ -82,15 +83,13 @@ impl<T: Scalar> Job<T> {
         self.largest
     }
 
-    // The number at a row and a column: zero where none was typed, and outside. Both are tested, since a row
-    // outside would be read in the next column.
+    // The number at a row and a column: zero where none was typed, and outside.
     pub fn entry(&self, row: usize, column: usize) -> T
         ensures value { result ≡ entry_at T.ops (typed self.now) row column }
     {
-        if row < self.side && column < self.side {
-            number_of(self.cells[place_of(self.side, row, column)])
-        } else {
-            T::zero()
+        match Place::new(self.side, row, column) {
+            Some(place) => number_of(self.cells[place.index()]),
+            None => T::zero(),
         }
     }
 
