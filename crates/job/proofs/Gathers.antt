@@ -1,6 +1,5 @@
 -- Every table that was opened and typed is gathered: opening makes it so, and each command keeps it.
 use Rattle.std.proofs.Common.{◌≡◌, ℕ, zero, suc, ◌*◌, ◌<◌, ◌≤◌, Bool, true, false, cond, T, ltb, leb, List, ◌∷◌, map, length, get_or, set, replicate, is_some, Some, None, Option, sym, refl, ap, ◌∙◌, ltb-true, leb-true, arith}
-use borrow.Author.Tests.{clash}
 use lib.Ieee.{Float}
 use Rattle.std.proofs.lemmas.List.{length-map, length-replicate, get_or-map, get_or-replicate}
 use Rattle.std.proofs.lemmas.List.Elements.{All-set}
@@ -21,7 +20,7 @@ kept P false u v p q = q refl
 
 untyped : {C : Type 0} (cell : Option C) → is_some cell ≡ false → cell ≡ None
 untyped None e = refl
-untyped (Some x) e = absurd (clash (sym e))
+untyped (Some x) e = cc
 
 zeros : {C R : Type 0} (ops : Ops C R) (n : ℕ) → map (entry_of ops) (replicate n None) ≡ replicate n ops.zero
 zeros ops zero = refl
