@@ -27,7 +27,7 @@ pub enum Fault {
 }
 
 impl Fault {
-    // The number by which the refusal is known.
+    // The number by which the refusal is known; a variant that bears values has no discriminant to cast.
     pub fn number(self) -> u8
         ensures number { result ≡ (refusal self).number }
     {

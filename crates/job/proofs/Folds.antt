@@ -1,6 +1,6 @@
 -- The largest size of a list when one of its numbers is replaced: a size can be pulled out of the fold.
 use Rattle.std.proofs.Common.{◌≡◌, ℕ, zero, suc, ◌<◌, T, List, [], ◌∷◌, length, get_or, set, replicate, fold, sym, refl, ap, ◌∙◌, ⊎_elim, arith}
-use Rattle.std.proofs.ByRecursion.{All-set}
+use Rattle.std.proofs.lemmas.List.Elements.{All-head, All-replicate, All-set, All-tail}
 use Rattle.std.proofs.lemmas.List.{length-set, get_or-set_other, set-set}
 use Rattle.std.proofs.lemmas.Bool.{cases_eq}
 use Rattle.scalar.specs.Ops.{Ops, RealOps, LargerLaws, SizeLaws}
@@ -16,13 +16,16 @@ module _ {C R : Type 0} (ops : Ops C R) (real : RealOps R) (laws : LargerLaws re
       fold (gather ops real) (real.larger a b) xs ≡ real.larger (fold (gather ops real) a xs) b
   pulled a b [] p q s = refl
   pulled a b (x ∷ xs) p q s =
-      ap (λ n. fold (gather ops real) n xs) (swapped a b (ops.size x) p q s.0) ∙
-      pulled (gather ops real a x) b xs (laws.closed a (ops.size x) p s.0) q s.1
+      let h = All-head (HasSize ops real) x xs s in
+      ap (λ n. fold (gather ops real) n xs) (swapped a b (ops.size x) p q h) ∙
+      pulled (gather ops real a x) b xs (laws.closed a (ops.size x) p h) q (All-tail (HasSize ops real) x xs s)
 
   pub folded_size : (a : R) (xs : List C) → T (real.is_size a) → Sized ops real xs →
       T (real.is_size (fold (gather ops real) a xs))
   folded_size a [] p s = p
-  folded_size a (x ∷ xs) p s = folded_size (gather ops real a x) xs (laws.closed a (ops.size x) p s.0) s.1
+  folded_size a (x ∷ xs) p s =
+      folded_size (gather ops real a x) xs (laws.closed a (ops.size x) p (All-head (HasSize ops real) x xs s))
+      (All-tail (HasSize ops real) x xs s)
 
   module _ (sizes : SizeLaws ops real) where
     -- the fold may as well start from the size of zero
@@ -30,11 +33,13 @@ module _ {C R : Type 0} (ops : Ops C R) (real : RealOps R) (laws : LargerLaws re
     from_zero [] s = refl
     from_zero (x ∷ xs) s =
         ap (λ n. fold (gather ops real) n xs)
-        (sym (laws.comm (ops.size ops.zero) (ops.size x) sizes.zero_size s.0 ∙ sizes.zero_neutral (ops.size x) s.0))
+        (let h = All-head (HasSize ops real) x xs s in
+        sym (laws.comm (ops.size ops.zero) (ops.size x) sizes.zero_size h ∙ sizes.zero_neutral (ops.size x) h))
 
     pub largest_is_size : (xs : List C) → Sized ops real xs → T (real.is_size (largest_size ops real xs))
     largest_is_size [] s = sizes.zero_size
-    largest_is_size (x ∷ xs) s = folded_size (ops.size x) xs s.0 s.1
+    largest_is_size (x ∷ xs) s =
+        folded_size (ops.size x) xs (All-head (HasSize ops real) x xs s) (All-tail (HasSize ops real) x xs s)
 
     -- a number in the place of a zero
     pub folded_set : (a : R) (xs : List C) (i : ℕ) (x : C) → T (real.is_size a) → Sized ops real xs → HasSize ops real x →
@@ -42,10 +47,11 @@ module _ {C R : Type 0} (ops : Ops C R) (real : RealOps R) (laws : LargerLaws re
         fold (gather ops real) a (set xs i x) ≡ real.larger (fold (gather ops real) a xs) (ops.size x)
     folded_set a [] i x p s q l e = let no : ⊥ = omega arith in absurd no
     folded_set a (y ∷ xs) zero x p s q l e =
-        pulled a (ops.size x) xs p q s.1 ∙
+        pulled a (ops.size x) xs p q (All-tail (HasSize ops real) y xs s) ∙
         ap (λ n. real.larger (fold (gather ops real) n xs) (ops.size x)) (sym (ap (gather ops real a) e ∙ sizes.zero_neutral a p))
     folded_set a (y ∷ xs) (suc i) x p s q l e =
-        folded_set (gather ops real a y) xs i x (laws.closed a (ops.size y) p s.0) s.1 q (omega arith) e
+        folded_set (gather ops real a y) xs i x (laws.closed a (ops.size y) p (All-head (HasSize ops real) y xs s))
+        (All-tail (HasSize ops real) y xs s) q (omega arith) e
 
     pub largest_set : (xs : List C) (i : ℕ) (x : C) → Sized ops real xs → Sized ops real (set xs i x) → HasSize ops real x →
         i < length xs → get_or xs i ops.zero ≡ ops.zero →
@@ -83,8 +89,7 @@ module _ {C R : Type 0} (ops : Ops C R) (real : RealOps R) (laws : LargerLaws re
 
 module _ {C R : Type 0} (ops : Ops C R) (real : RealOps R) (sizes : SizeLaws ops real) where
   pub zeros_sized : (n : ℕ) → Sized ops real (replicate n ops.zero)
-  zeros_sized zero = tt
-  zeros_sized (suc n) = (sizes.zero_size, zeros_sized n)
+  zeros_sized n = All-replicate (HasSize ops real) n ops.zero sizes.zero_size
 
   folded_zeros : (n : ℕ) → fold (gather ops real) (ops.size ops.zero) (replicate n ops.zero) ≡ ops.size ops.zero
   folded_zeros zero = refl

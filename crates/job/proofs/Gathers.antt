@@ -1,15 +1,15 @@
 -- Every table that was opened and typed is gathered: opening makes it so, and each command keeps it.
-use Rattle.std.proofs.Common.{◌≡◌, ℕ, zero, suc, ◌*◌, ◌<◌, ◌≤◌, Bool, true, false, cond, T, ltb, leb, List, ◌∷◌, map, length, get_or, set, replicate, is_some, Some, None, Option, sym, refl, ap, ◌∙◌, ltb-true, leb-true}
-use borrow.Author.Tests.{clash}
+use Rattle.std.proofs.Common.{◌≡◌, ℕ, zero, suc, ◌*◌, ◌<◌, ◌≤◌, Bool, true, false, cond, T, ltb, leb, List, ◌∷◌, map, length, get_or, set, replicate, is_some, Some, None, Option, sym, refl, ap, ◌∙◌, ltb-true, leb-true, arith}
 use lib.Ieee.{Float}
-use Rattle.std.proofs.ByRecursion.{All-set}
-use Rattle.std.proofs.lemmas.List.{length-map, length-replicate, get_or-map}
+use Rattle.std.proofs.lemmas.List.{length-map, length-replicate, get_or-map, get_or-replicate}
+use Rattle.std.proofs.lemmas.List.Elements.{All-set}
 use Rattle.std.proofs.lemmas.Bool.{and_parts}
 use Rattle.scalar.specs.Ops.{Ops, RealOps, LargerLaws, SizeLaws}
 use Rattle.job.specs.Gathered.{Gathered, HasSize, Sized, conjugated, largest_of, largest_size}
 use Rattle.job.specs.Typed.{Typed, Outcome, blank, entries, entry_of, is_limit, is_lower, is_tolerance, is_typed, limiting}
 use Rattle.job.specs.Typed.{place, putting, tolerating, written}
 use Rattle.job.proofs.Folds.{largest_pair, largest_zeros, zeros_sized}
+use Rattle.job.proofs.Places.{place_inside}
 use Rattle.job.proofs.Mirrors.{placed_entries, placed_mirrored, placed_whole, above_inside, at_inside, above_free}
 
 -- what both ways of a test have
@@ -20,12 +20,7 @@ kept P false u v p q = q refl
 
 untyped : {C : Type 0} (cell : Option C) → is_some cell ≡ false → cell ≡ None
 untyped None e = refl
-untyped (Some x) e = absurd (clash (sym e))
-
-nones : {C : Type 0} (n i : ℕ) → ◌≡◌ {A = Option C} (get_or (replicate n None) i None) None
-nones zero i = refl
-nones (suc n) zero = refl
-nones (suc n) (suc i) = nones n i
+untyped (Some x) e = cc
 
 zeros : {C R : Type 0} (ops : Ops C R) (n : ℕ) → map (entry_of ops) (replicate n None) ≡ replicate n ops.zero
 zeros ops zero = refl
@@ -36,23 +31,27 @@ module _ {C R : Type 0} (ops : Ops C R) (real : RealOps R) where
   blank_gathered sizes n = record {
     whole = length-replicate (n * n) None;
     mirrored =
-        λ row column l r. nones (n * n) (place n column row) ∙ sym (ap (conjugated ops) (nones (n * n) (place n row column)));
+        λ row column l r. get_or-replicate (n * n) (place n column row) None None (place_inside n column row (omega arith) r) ∙
+        sym (ap (conjugated ops) (get_or-replicate (n * n) (place n row column) None None (place_inside n row column r (omega arith))));
     sized = rw (zeros ops (n * n)) (zeros_sized ops real sizes (n * n));
     largest = sym (ap (largest_size ops real) (zeros ops (n * n)) ∙ largest_zeros ops real sizes (n * n));
   }
 
+  -- the tolerance and the limit are no part of it
+  beside : (j : Typed C R) (t : Float) (t_given : Bool) (n : ℕ) (n_given : Bool) → Gathered ops real j →
+      Gathered ops real (record j { tolerance = t; tolerance_given = t_given; limit = n; limit_given = n_given })
+  beside j t t_given n n_given h = record { whole = h.whole; mirrored = h.mirrored; sized = h.sized; largest = h.largest }
+
   pub tolerating_gathered : (j : Typed C R) (t : Float) → Gathered ops real j → Gathered ops real (tolerating j t).1
   tolerating_gathered j t h =
       kept (Gathered ops real) (is_tolerance t) _ _
-      (λ _. kept (Gathered ops real) j.tolerance_given _ _ (λ _. h)
-      (λ _. record { whole = h.whole; mirrored = h.mirrored; sized = h.sized; largest = h.largest }))
+      (λ _. kept (Gathered ops real) j.tolerance_given _ _ (λ _. h) (λ _. beside j t true j.limit j.limit_given h))
       (λ _. h)
 
   pub limiting_gathered : (j : Typed C R) (n : ℕ) → Gathered ops real j → Gathered ops real (limiting j n).1
   limiting_gathered j n h =
       kept (Gathered ops real) (is_limit n) _ _
-      (λ _. kept (Gathered ops real) j.limit_given _ _ (λ _. h)
-      (λ _. record { whole = h.whole; mirrored = h.mirrored; sized = h.sized; largest = h.largest }))
+      (λ _. kept (Gathered ops real) j.limit_given _ _ (λ _. h) (λ _. beside j j.tolerance j.tolerance_given n true h))
       (λ _. h)
 
   module _ (laws : LargerLaws real) (sizes : SizeLaws ops real) where

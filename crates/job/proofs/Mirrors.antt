@@ -5,7 +5,7 @@ use Rattle.std.proofs.lemmas.Bool.{cases_eq}
 use Rattle.scalar.specs.Ops.{Ops}
 use Rattle.job.specs.Gathered.{Mirrors, conjugated}
 use Rattle.job.specs.Typed.{entry_of, place, placed}
-use Rattle.job.proofs.Places.{place_inside, same_row, same_column}
+use Rattle.job.proofs.Places.{place_inside, same_place}
 
 module _ {C R : Type 0} (ops : Ops C R) (n : ℕ) (cells : List (Option C)) (row column : ℕ) (x : C) where
   pub placed_whole : length (placed ops n cells row column x) ≡ length cells
@@ -47,7 +47,7 @@ module _ {C R : Type 0} (ops : Ops C R) (n : ℕ) (cells : List (Option C)) (row
       spot : column < row → Mirrors ops n (placed ops n cells row column x) row column
       spot l =
           get_or-set_other first (place n row column) (place n column row) (Some x) None
-          (λ e. let er = same_row n column row row column (omega arith) inside e in omega arith) ∙
+          (λ e. omega (arith, (same_place n column row row column (omega arith) inside e).1)) ∙
           get_or-set_same cells (place n column row) (Some (ops.conj x)) None above_inside ∙
           sym (ap (conjugated ops) (get_or-set_same first (place n row column) (Some x) None within))
         where
@@ -61,13 +61,12 @@ module _ {C R : Type 0} (ops : Ops C R) (n : ℕ) (cells : List (Option C)) (row
       elsewhere : (r c : ℕ) → c < r → r < n → (r ≡ row → c ≡ column → ⊥) → Mirrors ops n (placed ops n cells row column x) r c
       elsewhere r c l k ne =
           untouched (place n c r)
-          (λ e. ne (same_column n c r column row inner low e) (same_row n c r column row inner low e))
-          (λ e. let er = same_column n c r row column inner inside e in
-          let ec = same_row n c r row column inner inside e in omega arith) ∙
+          (λ e. let s = same_place n c r column row inner low e in ne s.0 s.1)
+          (λ e. let s = same_place n c r row column inner inside e in omega (arith, s.0, s.1)) ∙
           mirrored r c l k ∙
           sym (ap (conjugated ops) (untouched (place n r c)
-          (λ e. let ec = same_column n r c column row k low e in let er = same_row n r c column row k low e in omega arith)
-          (λ e. ne (same_row n r c row column k inside e) (same_column n r c row column k inside e))))
+          (λ e. let s = same_place n r c column row k low e in omega (arith, s.0, s.1))
+          (λ e. let s = same_place n r c row column k inside e in ne s.1 s.0)))
         where
           inner : c < n
           inner = omega arith

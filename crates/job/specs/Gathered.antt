@@ -1,6 +1,5 @@
 -- The largest size of a table, and what every table that was opened and typed meets. Definitions only.
-use Rattle.std.specs.Prelude.{◌≡◌, ℕ, ◌*◌, ◌<◌, T, List, [], ◌∷◌, length, Some, None, fold, Option, slice_index_or}
-use Rattle.std.specs.List.{AllByRecursion}
+use Rattle.std.specs.Prelude.{◌≡◌, ℕ, ◌*◌, ◌<◌, T, List, [], ◌∷◌, All, length, Some, None, fold, Option, slice_index_or}
 use Rattle.scalar.specs.Ops.{Ops, RealOps}
 use Rattle.job.specs.Typed.{Typed, entries, place}
 
@@ -23,7 +22,7 @@ module _ {C R : Type 0} where
   HasSize ops real x = T (real.is_size (ops.size x))
 
   abbrev pub Sized : Ops C R → RealOps R → List C → Type 0
-  Sized ops real xs = AllByRecursion (HasSize ops real) xs
+  Sized ops real xs = All (HasSize ops real) xs
 
   -- a cell's conjugate is typed where it is
   abbrev pub conjugated : Ops C R → Option C → Option C
@@ -32,7 +31,8 @@ module _ {C R : Type 0} where
 
   -- the entry at a column and a row is the conjugate of that at the row and the column
   abbrev pub Mirrors : Ops C R → ℕ → List (Option C) → ℕ → ℕ → Type 0
-  Mirrors ops side cells row column = slice_index_or cells (place side column row) None ≡ conjugated ops (slice_index_or cells (place side row column) None)
+  Mirrors ops side cells row column =
+      slice_index_or cells (place side column row) None ≡ conjugated ops (slice_index_or cells (place side row column) None)
 
   -- Above the diagonal stand the conjugates of the numbers below it, and the largest size that was gathered
   -- is that of the whole table.

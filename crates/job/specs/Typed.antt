@@ -1,5 +1,5 @@
 -- A table while it is typed, as plain data, and what each command makes of it. Definitions only.
-use Rattle.std.specs.Prelude.{ℕ, ◌+◌, ◌*◌, Bool, true, false, cond, ◌&&◌, List, [], ◌∷◌, map, replicate, is_some, unwrap_or, Some, None, Option, from_bits, nat_le, nat_lt, slice_index_or, slice_set, Float}
+use Rattle.std.specs.Prelude.{ℕ, ◌+◌, ◌*◌, Bool, true, cond, ◌&&◌, List, [], ◌∷◌, map, replicate, is_some, unwrap_or, Some, None, Option, from_bits, nat_le, nat_lt, slice_index_or, slice_set, Float}
 use Rattle.std.specs.Float.Ieee.{le}
 use Rattle.std.specs.Float.{float_is_finite, binary64}
 use Rattle.fault.specs.Refusals.{Refusal, refused}
@@ -73,30 +73,16 @@ module _ {C R : Type 0} where
       cond (nat_lt row j.side && nat_lt column j.side) (entry_of ops (slice_index_or j.cells (place j.side row column) None)) ops.zero
 
   abbrev pub blank : Ops C R → ℕ → Typed C R
-  blank ops side = record {
-    side = side;
-    cells = replicate (side * side) None;
-    tolerance = usual_tolerance;
-    tolerance_given = false;
-    limit = usual_limit;
-    limit_given = false;
-    largest = ops.size ops.zero;
-  }
+  blank ops side = table_of side (replicate (side * side) None) None None (ops.size ops.zero)
 
   -- The conjugate goes above the diagonal first, so that on the diagonal the number stands as typed.
   abbrev pub placed : Ops C R → ℕ → List (Option C) → ℕ → ℕ → C → List (Option C)
-  placed ops side cells row column x = slice_set (slice_set cells (place side column row) (Some (ops.conj x))) (place side row column) (Some x)
+  placed ops side cells row column x =
+      slice_set (slice_set cells (place side column row) (Some (ops.conj x))) (place side row column) (Some x)
 
   abbrev pub written : Ops C R → RealOps R → Typed C R → ℕ → ℕ → C → Typed C R
-  written ops real j row column x = record {
-    side = j.side;
-    cells = placed ops j.side j.cells row column x;
-    tolerance = j.tolerance;
-    tolerance_given = j.tolerance_given;
-    limit = j.limit;
-    limit_given = j.limit_given;
-    largest = real.larger j.largest (ops.size x);
-  }
+  written ops real j row column x =
+      record j { cells = placed ops j.side j.cells row column x; largest = real.larger j.largest (ops.size x) }
 
   abbrev pub is_typed : Typed C R → ℕ → ℕ → Bool
   is_typed j row column = is_some (slice_index_or j.cells (place j.side row column) None)
@@ -113,33 +99,11 @@ module _ {C R : Type 0} where
   abbrev pub tolerating : Typed C R → Float → Outcome C R
   tolerating j t =
       cond (is_tolerance t)
-      (cond j.tolerance_given (Some (refused 14 []), j) (
-        None,
-        record {
-          side = j.side;
-          cells = j.cells;
-          tolerance = t;
-          tolerance_given = true;
-          limit = j.limit;
-          limit_given = j.limit_given;
-          largest = j.largest;
-        },
-      ))
+      (cond j.tolerance_given (Some (refused 14 []), j) (None, record j { tolerance = t; tolerance_given = true }))
       (Some (refused 4 []), j)
 
   abbrev pub limiting : Typed C R → ℕ → Outcome C R
   limiting j n =
       cond (is_limit n)
-      (cond j.limit_given (Some (refused 14 []), j) (
-        None,
-        record {
-          side = j.side;
-          cells = j.cells;
-          tolerance = j.tolerance;
-          tolerance_given = j.tolerance_given;
-          limit = n;
-          limit_given = true;
-          largest = j.largest;
-        },
-      ))
+      (cond j.limit_given (Some (refused 14 []), j) (None, record j { limit = n; limit_given = true }))
       (Some (refused 5 []), j)

@@ -5,8 +5,9 @@ ghost use Rattle.job.specs.Opening.{had_room, opened, opening};
 ghost use Rattle.job.specs.Shown.{typed};
 ghost use Rattle.job.specs.Typed.{entries, entry_at, entry_of, is_limit, is_side, is_tolerance};
 
-use crate::checks::{is_side, place_of};
+use crate::checks::is_side;
 use crate::job::Job;
+use crate::place::Place;
 use crate::rejected::Unopened;
 use scalar::{Arithmetic, RealScalar, Scalar};
 use std::alloc::{AllocError, Global};
@@ -35,14 +36,14 @@ fn untyped<T: Scalar>(heap: Global, side: usize) -> Result<Vec<Option<T>>, Alloc
 
 impl<T: Scalar> Job<T> {
     // A table of zeros, with tolerance 2^-52 and limit 1000.
-    pub fn open(heap: Global, side: usize) -> Result<Job<T>, Unopened>
+    pub fn open(heap: Global, side: usize) -> Result<Self, Unopened>
         ensures outcome { opening result ≡ opened T.ops side (had_room result) }
     {
         if !is_side(side) {
             return Err(Unopened::Operand);
         }
         let cells = untyped(heap, side)?;
-        Ok(Job {
+        Ok(Self {
             side,
             cells,
             tolerance: None,
@@ -86,10 +87,9 @@ impl<T: Scalar> Job<T> {
     pub fn entry(&self, row: usize, column: usize) -> T
         ensures value { result ≡ entry_at T.ops (typed self.now) row column }
     {
-        if row < self.side && column < self.side {
-            number_of(self.cells[place_of(self.side, row, column)])
-        } else {
-            T::zero()
+        match Place::new(self.side, row, column) {
+            Some(place) => number_of(self.cells[place.index()]),
+            None => T::zero(),
         }
     }
 

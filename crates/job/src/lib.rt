@@ -4,6 +4,7 @@
 mod calls;
 mod checks;
 mod job;
+mod place;
 mod rejected;
 mod typing;
 

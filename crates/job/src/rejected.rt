@@ -27,7 +27,7 @@ pub enum Unopened {
 }
 
 impl Rejected {
-    // The number by which the refusal is known.
+    // The number by which the refusal is known; a variant that bears a value has no discriminant to cast.
     pub fn number(self) -> u8
         ensures number { result ≡ (rejection self).number }
     {

@@ -1,12 +1,13 @@
 // Typing into a table. A refused command changes nothing.
-ghost use Rattle.std.specs.Prelude.{◌≡◌, ◌*◌, ◌<◌, ◌≤◌, is_none, cond, Some, Ok, Err, length};
+ghost use Rattle.std.specs.Prelude.{◌≡◌, ◌*◌, is_none, cond, Some, Ok, Err, length};
 ghost use Rattle.job.specs.Rejections.{reported};
 ghost use Rattle.job.specs.Shown.{typed};
 ghost use Rattle.job.specs.Typed.{limiting, placed, putting, tolerating};
 ghost use Rattle.job.specs.declared.rejected.Rejected.TheVariants.{Twice};
 
-use crate::checks::{is_limit, is_lower, is_tolerance, place_of};
+use crate::checks::{is_limit, is_tolerance};
 use crate::job::Job;
+use crate::place::Place;
 use crate::rejected::Rejected;
 use fault::Fault;
 use scalar::{Arithmetic, RealScalar, Scalar};
@@ -24,15 +25,12 @@ fn give<V: Copy>(slot: &mut Option<V>, value: V) -> Result<(), Rejected>
 }
 
 // The conjugate goes above the diagonal first, so that on the diagonal the number stands as typed.
-fn write<T: Scalar>(cells: &mut [Option<T>], side: usize, row: usize, column: usize, x: T)
-    requires few { side ≤ 32 }
-    requires whole { length cells.old ≡ side * side }
-    requires row { row < side }
-    requires column { column < side }
-    ensures after { cells.new ≡ placed T.ops side cells.old row column x }
+fn write<T: Scalar>(cells: &mut [Option<T>], place: Place, x: T)
+    requires { length cells.old ≡ place.side * place.side }
+    ensures { cells.new ≡ placed T.ops place.side cells.old place.row place.column x }
 {
-    cells[place_of(side, column, row)] = Some(x.conjugate());
-    cells[place_of(side, row, column)] = Some(x);
+    cells[place.mirrored().index()] = Some(x.conjugate());
+    cells[place.index()] = Some(x);
 }
 
 impl<T: Scalar> Job<T> {
@@ -40,17 +38,17 @@ impl<T: Scalar> Job<T> {
     pub fn put(&mut self, row: usize, column: usize, x: T) -> Result<(), Rejected>
         ensures outcome { (reported result, typed self.new) ≡ putting T.ops T.Real.real (typed self.old) row column x }
     {
-        if !is_lower(self.side, row, column) {
+        let Some(place) = Place::lower(self.side, row, column) else {
             return Err(Rejected::Operand);
-        }
+        };
         let size = x.size();
         if !size.is_finite() {
             return Err(Fault::Entry { row, column }.into());
         }
-        if self.cells[place_of(self.side, row, column)].is_some() {
+        if self.cells[place.index()].is_some() {
             return Err(Rejected::Twice);
         }
-        write(&mut self.cells, self.side, row, column, x);
+        write(&mut self.cells, place, x);
         self.largest = self.largest.larger(size);
         Ok(())
     }

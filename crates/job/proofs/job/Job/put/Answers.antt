@@ -5,8 +5,8 @@ use Rattle.job.specs.Typed.{Typed, table_of, putting}
 use Rattle.job.proofs.Gathers.{putting_gathered}
 use Rattle.job.proofs.job.Job.put.Goals as goal
 
-pub invariant_of-self-2-clause-gathered : goal.invariant_of-self-2-clause-gathered
-invariant_of-self-2-clause-gathered g c =
+pub invariant_of-self-clause-gathered : goal.invariant_of-self-clause-gathered
+invariant_of-self-clause-gathered g c =
     let j = c.args.self.now in
     let real = g.T.Real.RealScalar.real in
     let len : length c.write.new.cells ≡ vec_len j.cells = search rules in
