@@ -1,27 +1,25 @@
 -- A turn of rows that stand column by column, one row after the other. Assumes nothing.
-use Rattle.std.proofs.Common.{◌≡◌, ℕ, zero, suc, ◌+◌, ◌*◌, ◌<◌, ◌≤◌, ◌≢◌, List, [], ◌∷◌, ◌++◌, map, length, get_or, take, drop, set, sym, refl, ap, ◌∙◌, le_of_suc-le-suc, not-suc-le-zero, zero-add, arith}
+use Rattle.std.proofs.Common.{◌≡◌, ℕ, zero, suc, true, ◌+◌, ◌*◌, ◌<◌, ◌≤◌, ◌≢◌, List, [], ◌∷◌, ◌++◌, map, length, get_or, take, drop, set, sym, ap, ap₂, ◌∙◌, append-nil, le_of_suc-le-suc, not-suc-le-zero, zero-add, arith}
 use Rattle.std.specs.List.{range_with_len}
 use Rattle.std.proofs.lemmas.List.FromFn.{length-map-range_with_len, get_or-map-range_with_len}
 use Rattle.std.proofs.lemmas.List.Edits.{map_over_more}
-use Rattle.std.proofs.lemmas.List.{length-set, get_or-set_same, get_or-set_other, set-set, append-nil, take_all, drop_all}
+use Rattle.std.proofs.lemmas.List.{length-set, get_or-set_same, get_or-set_other, set-set, take_all, drop_all}
 use Rattle.scalar.specs.Ops.{Ops}
-use Rattle.rows.specs.Turns.{first, second, turn_at}
-use Rattle.rows.specs.Makes.{row_of, rows_of}
-use Rattle.rows.proofs.Places.{same_row, same_column, place_below, set_map_counting}
+use Rattle.rows.specs.Turns.{Turn, first, second, sine, turn_at, turned}
+use Rattle.rows.specs.Makes.{all_rows_fit, entries_turned, row_of, rows_of}
+use Rattle.rows.proofs.Places.{same_row, same_column, place_below, first_place, second_place, set_map_counting}
+use Rattle.rows.proofs.Held.{fit_length}
 
--- a turn writes two places of the row
-turn_at_sets : {C R : Type 0} (ops : Ops C R) (c : R) (t : C) (i : ℕ) (row : List C) (d : C) → suc i < length row →
-    turn_at ops c t i row ≡
-    set (set row i (first ops c t (get_or row i d) (get_or row (suc i) d))) (suc i) (second ops c t (get_or row i d) (get_or row (suc i) d))
-turn_at_sets ops c t i [] d h = absurd (not-suc-le-zero h)
-turn_at_sets ops c t i (a ∷ []) d h = absurd (not-suc-le-zero (le_of_suc-le-suc h))
-turn_at_sets ops c t zero (a ∷ (b ∷ row)) d h = refl
-turn_at_sets {C} ops c t (suc i) (a ∷ (b ∷ row)) d h =
-    ap (λ (l : List C). a ∷ l) (turn_at_sets ops c t i (b ∷ row) d (le_of_suc-le-suc h))
-
-map_same : {A B : Type 0} (f g : A → B) (xs : List A) → ((x : A) → f x ≡ g x) → map f xs ≡ map g xs
-map_same f g [] h = refl
-map_same f g (x ∷ xs) h = λ k. h x k ∷ map_same f g xs h k
+-- a turn writes two places of the row, of which the old entries are a and b
+turn_at_sets : {C R : Type 0} (ops : Ops C R) (c : R) (t : C) (i : ℕ) (row : List C) (d a b : C) → suc i < length row →
+    get_or row i d ≡ a → get_or row (suc i) d ≡ b →
+    set (set row i (first ops c t a b)) (suc i) (second ops c t a b) ≡ turn_at ops c t i row
+turn_at_sets ops c t i [] d a b h ea eb = absurd (not-suc-le-zero h)
+turn_at_sets ops c t i (x ∷ []) d a b h ea eb = absurd (not-suc-le-zero (le_of_suc-le-suc h))
+turn_at_sets ops c t zero (x ∷ (y ∷ row)) d a b h ea eb =
+    ap₂ (λ v u. first ops c t v u ∷ (second ops c t v u ∷ row)) (sym ea) (sym eb)
+turn_at_sets ops c t (suc i) (x ∷ (y ∷ row)) d a b h ea eb =
+    ap (λ l. x ∷ l) (turn_at_sets ops c t i (y ∷ row) d a b (le_of_suc-le-suc h) ea eb)
 
 module _ {C : Type 0} (d : C) (w n : ℕ) where
   -- a write at row r and column i changes that place of that row, and no other row
@@ -36,8 +34,9 @@ module _ {C : Type 0} (d : C) (w n : ℕ) where
   other_row : (cells : List C) (r k i : ℕ) (v : C) → r < n → k < n → k ≢ r →
       row_of d w n (set cells (r + i * n) v) k ≡ row_of d w n cells k
   other_row cells r k i v hr hk ne =
-      map_same (λ j. get_or (set cells (r + i * n) v) (k + j * n) d) (λ j. get_or cells (k + j * n) d) (range_with_len 0 w)
-      (λ j. get_or-set_other cells (r + i * n) (k + j * n) v d (λ e. ne (same_row n k r j i hk hr e)))
+      let other : (j : ℕ) → get_or (set cells (r + i * n) v) (k + j * n) d ≡ get_or cells (k + j * n) d =
+      λ j. get_or-set_other cells (r + i * n) (k + j * n) v d (λ e. ne (same_row n k r j i hk hr e)) in
+      λ s. map (λ j. other j s) (range_with_len 0 w)
 
   rows_set : (cells : List C) (r i : ℕ) (v : C) → r < n → i < w → length cells ≡ w * n →
       rows_of d w n (set cells (r + i * n) v) ≡ set (rows_of d w n cells) r (set (row_of d w n cells r) i v)
@@ -50,48 +49,53 @@ module _ {C : Type 0} (d : C) (w n : ℕ) where
       set (rows_of d w n cells) r (set (set (row_of d w n cells r) i v) j u)
   rows_set_two cells r i j v u hr hi hj len =
       rows_set (set cells (r + i * n) v) r j u hr hj (length-set cells (r + i * n) v ∙ len)
-      ∙ ap (λ (row : List C). set (rows_of d w n (set cells (r + i * n) v)) r (set row j u)) (row_set cells r i v hr hi len)
-      ∙ ap (λ (rows : List (List C)). set rows r (set (set (row_of d w n cells r) i v) j u)) (rows_set cells r i v hr hi len)
+      ∙ ap₂ (λ rows row. set rows r (set row j u)) (rows_set cells r i v hr hi len) (row_set cells r i v hr hi len)
       ∙ set-set (rows_of d w n cells) r (set (row_of d w n cells r) i v) (set (set (row_of d w n cells r) i v) j u)
 
-  entry_of : (cells : List C) (r i : ℕ) → i < w → get_or (row_of d w n cells r) i d ≡ get_or cells (r + i * n) d
-  entry_of cells r i hi = get_or-map-range_with_len (λ j. get_or cells (r + j * n) d) 0 w i i d hi (zero-add i)
+module _ {C R : Type 0} (ops : Ops C R) (c : R) (t : C) (w n i : ℕ) (inside : suc i < w) where
+  -- the entries of a row at the two columns
+  row_turned : (cells : List C) (r : ℕ) → r < n → length cells ≡ w * n →
+      rows_of ops.zero w n (entries_turned ops c t (i * n + r) ((i * n + n) + r) cells) ≡
+      set (rows_of ops.zero w n cells) r (turn_at ops c t i (row_of ops.zero w n cells r))
+  row_turned cells r hr len =
+      let d = ops.zero in
+      let entry : ℕ → C = λ j. get_or cells (r + j * n) d in
+      let is : (j : ℕ) → j < w → get_or (row_of d w n cells r) j d ≡ entry j =
+      λ j h. get_or-map-range_with_len entry 0 w j j d h (zero-add j) in
+      let hi : i < w = omega arith in
+      let whole : length (row_of d w n cells r) ≡ w = length-map-range_with_len entry 0 w in
+      let two : suc i < length (row_of d w n cells r) = omega arith in
+      ap₂ (λ x y. rows_of d w n (entries_turned ops c t x y cells)) (first_place n r i) (second_place n r i)
+      ∙ rows_set_two d w n cells r i (suc i) (first ops c t (entry i) (entry (suc i))) (second ops c t (entry i) (entry (suc i)))
+      hr hi inside len
+      ∙ ap (set (rows_of d w n cells) r)
+      (turn_at_sets ops c t i (row_of d w n cells r) d (entry i) (entry (suc i)) two (is i hi) (is (suc i) inside))
 
-  module _ {R : Type 0} (ops : Ops C R) (c : R) (t : C) (i : ℕ) (inside : suc i < w) where
-    -- both writes turn the row, where a and b are its old entries
-    rows_turned : (cells : List C) (r : ℕ) (a b : C) → r < n → length cells ≡ w * n →
-        get_or cells (r + i * n) d ≡ a → get_or cells (r + suc i * n) d ≡ b →
-        rows_of d w n (set (set cells (r + i * n) (first ops c t a b)) (r + suc i * n) (second ops c t a b)) ≡
-        set (rows_of d w n cells) r (turn_at ops c t i (row_of d w n cells r))
-    rows_turned cells r a b hr len ea eb =
-        let hi : i < w = omega arith in
-        let row : List C = row_of d w n cells r in
-        let whole : length row ≡ w = length-map-range_with_len _ 0 w in
-        let two : suc i < length row = omega arith in
-        rows_set_two cells r i (suc i) (first ops c t a b) (second ops c t a b) hr hi inside len
-        ∙ ap (λ (l : List C). set (rows_of d w n cells) r l)
-        (ap (λ (x : C). set (set row i (first ops c t x b)) (suc i) (second ops c t x b)) (sym (entry_of cells r i hi ∙ ea))
-        ∙ ap (λ (y : C). set (set row i (first ops c t (get_or row i d) y)) (suc i) (second ops c t (get_or row i d) y))
-        (sym (entry_of cells r (suc i) inside ∙ eb))
-        ∙ sym (turn_at_sets ops c t i row d two))
+-- the first rows are turned, and the others as they were: one row more, and after the last row
+module _ {C R : Type 0} (ops : Ops C R) (turn : Turn R) (w n : ℕ) (before : List C) where
+  abbrev rows : List (List C)
+  rows = rows_of ops.zero w n before
 
-    -- one row more
-    pub turned_more : (cells : List C) (rows : List (List C)) (r p q : ℕ) (a b v u : C) → r < n → length cells ≡ w * n →
-        p ≡ r + i * n → q ≡ r + suc i * n → get_or cells p d ≡ a → get_or cells q d ≡ b →
-        v ≡ first ops c t a b → u ≡ second ops c t a b → length rows ≡ n →
-        rows_of d w n cells ≡ map (turn_at ops c t i) (take r rows) ++ drop r rows →
-        rows_of d w n (set (set cells p v) q u) ≡ map (turn_at ops c t i) (take (r + 1) rows) ++ drop (r + 1) rows
-    turned_more cells rows r p q a b v u hr len ep eq ea eb ev eu all inv =
-        let below : r < length rows = omega arith in
-        let places : rows_of d w n (set (set cells p v) q u) ≡
-        rows_of d w n (set (set cells (r + i * n) (first ops c t a b)) (r + suc i * n) (second ops c t a b)) = cc in
-        let at_a : get_or cells (r + i * n) d ≡ a = cc in
-        let at_b : get_or cells (r + suc i * n) d ≡ b = cc in
-        places ∙ rows_turned cells r a b hr len at_a at_b
-        ∙ map_over_more (turn_at ops c t i) rows (rows_of d w n cells) r (row_of d w n cells r) below inv
-        (sym (get_or-map-range_with_len (row_of d w n cells) 0 n r r (row_of d w n cells r) hr (zero-add r)))
+  pub one_more : (cells after : List C) (r : ℕ) (t : C) → turn.column + 1 < w → r < n → all_rows_fit w n (length before) ≡ true →
+      length cells ≡ length before → t ≡ sine ops turn.direction turn.s →
+      after ≡ entries_turned ops turn.c t (turn.column * n + r) ((turn.column * n + n) + r) cells →
+      rows_of ops.zero w n cells ≡ map (turned ops turn) (take r rows) ++ drop r rows →
+      rows_of ops.zero w n after ≡ map (turned ops turn) (take (r + 1) rows) ++ drop (r + 1) rows
+  one_more cells after r t inside hr fit len ts is inv =
+      let next : suc turn.column < w = omega arith in
+      let all : length rows ≡ n = length-map-range_with_len (row_of ops.zero w n before) 0 n in
+      let below : r < length rows = omega arith in
+      let row = row_of ops.zero w n cells in
+      ap (rows_of ops.zero w n) (is ∙ ap (λ x. entries_turned ops turn.c x (turn.column * n + r) ((turn.column * n + n) + r) cells) ts)
+      ∙ row_turned ops turn.c (sine ops turn.direction turn.s) w n turn.column next cells r hr (len ∙ fit_length w n (length before) fit)
+      ∙ map_over_more (turned ops turn) rows (rows_of ops.zero w n cells) r (row r) below inv
+      (sym (get_or-map-range_with_len row 0 n r r (row r) hr (zero-add r)))
 
--- after the last row
-pub turned_throughout : {X : Type 0} (f : X → X) (rows : List X) (r : ℕ) → length rows ≤ r → map f (take r rows) ++ drop r rows ≡ map f rows
-turned_throughout {X} f rows r h =
-    ap (λ (l : List X). map f (take r rows) ++ l) (drop_all r rows h) ∙ append-nil (map f (take r rows)) ∙ ap (map f) (take_all r rows h)
+  pub all_turned : (cells : List C) (r : ℕ) → n ≤ r →
+      rows_of ops.zero w n cells ≡ map (turned ops turn) (take r rows) ++ drop r rows →
+      rows_of ops.zero w n cells ≡ map (turned ops turn) rows
+  all_turned cells r h inv =
+      let all : length rows ≡ n = length-map-range_with_len (row_of ops.zero w n before) 0 n in
+      let past : length rows ≤ r = omega arith in
+      inv ∙ ap₂ (λ done left. map (turned ops turn) done ++ left) (take_all r rows past) (drop_all r rows past)
+      ∙ append-nil (map (turned ops turn) rows)

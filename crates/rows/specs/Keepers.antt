@@ -1,5 +1,5 @@
 -- What a keeper of rows holds, and what its calls answer. Definitions only.
-use Rattle.std.specs.Prelude.{◌≡◌, ℕ, zero, suc, ◌+◌, ◌≤◌, Bool, cond, List, [], ◌∷◌, map, length, Ok, Err, Result, nat_lt}
+use Rattle.std.specs.Prelude.{◌≡◌, ℕ, zero, suc, ◌+◌, ◌≤◌, Bool, cond, List, [], ◌∷◌, All, map, length, Ok, Err, Result, nat_lt}
 use Rattle.scalar.specs.Ops.{Ops}
 use Rattle.fault.specs.declared.Fault.{Fault}
 use Rattle.fault.specs.Refusals.{Refusal, refused, refusal}
@@ -9,10 +9,6 @@ use Rattle.rows.specs.Turns.{Turn, turned}
 pub record Kept (C : Type 0) : Type 0 where
   pub width : ℕ
   pub rows : List (List C)
-
-abbrev pub All : {A : Type 0} → (A → Type 0) → List A → Type 0
-All P [] = Unit {0}
-All P (x ∷ xs) = P x × All P xs
 
 -- at most 65,536 rows, each of the width
 pub record Sound {C : Type 0} (k : Kept C) : Type 0 where

@@ -1,8 +1,9 @@
 -- The keepers that are made: what a first call checks, and what is held. Definitions only.
-use Rattle.std.specs.Prelude.{ℕ, ◌+◌, ◌-◌, ◌*◌, Bool, cond, ◌&&◌, ◌||◌, List, [], ◌++◌, map, length, get_or, set, ◌==◌, nat_le, nat_lt, slice_index_or, slice_set}
+use Rattle.std.specs.Prelude.{ℕ, ◌+◌, ◌-◌, ◌*◌, Bool, cond, ◌&&◌, ◌||◌, List, [], ◌++◌, map, length, get_or, set, ◌==◌, nat_le, nat_lt}
 use Rattle.std.specs.List.{range_with_len}
 use Rattle.scalar.specs.Ops.{Ops}
 use Rattle.fault.specs.Refusals.{refused}
+use Rattle.rows.specs.Turns.{first, second}
 use Rattle.rows.specs.Keepers.{Kept, Answer, given, denied, cell_at}
 
 -- from 1 to 512
@@ -26,11 +27,12 @@ row_of d width count cells r = map (λ i. get_or cells (r + i * count) d) (range
 abbrev pub rows_of : {C : Type 0} → C → ℕ → ℕ → List C → List (List C)
 rows_of d width count cells = map (row_of d width count cells) (range_with_len 0 count)
 
--- what a turn writes at the places x and y of a slice, with t and the negative u of its conjugate
-abbrev pub entries_turned : {C R : Type 0} → Ops C R → R → C → C → ℕ → ℕ → List C → List C
-entries_turned ops c t u x y cells =
-    set (slice_set cells x (ops.add (ops.scale (slice_index_or cells x ops.zero) c) (ops.mul t (slice_index_or cells y ops.zero)))) y
-    (ops.add (ops.mul u (slice_index_or cells x ops.zero)) (ops.scale (slice_index_or cells y ops.zero) c))
+-- what a turn writes at the places x and y of a slice, of which the old entries are a and b
+abbrev pub entries_turned : {C R : Type 0} → Ops C R → R → C → ℕ → ℕ → List C → List C
+entries_turned ops c t x y cells =
+    let a = get_or cells x ops.zero in
+    let b = get_or cells y ops.zero in
+    set (set cells x (first ops c t a b)) y (second ops c t a b)
 
 abbrev pub count_fits : ℕ → Bool
 count_fits count = nat_le count 512

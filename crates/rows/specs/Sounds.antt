@@ -1,28 +1,23 @@
 -- The keepers that are made are sound: at most 65,536 rows, each of the width.
-use Rattle.std.specs.Prelude.{◌≡◌, ℕ, ◌+◌, ◌*◌, ◌&&◌, List, [], ◌∷◌, ◌++◌, map, length, ◌==◌, nat_le}
-use Rattle.std.proofs.Common.{arith, sym, subst, lit≤}
+use Rattle.std.specs.Prelude.{◌≡◌, ℕ, ◌+◌, ◌*◌, ◌&&◌, List, [], All, ◌++◌, length, ◌==◌, nat_le}
+use Rattle.std.proofs.Common.{arith, sym, subst, lit≤, not-suc-le-zero}
 use Rattle.std.specs.List.{range_with_len}
 use Rattle.std.proofs.lemmas.List.FromFn.{length-map-range_with_len}
 use Rattle.std.proofs.lemmas.List.{length-append}
+use Rattle.std.proofs.lemmas.List.Elements.{All-map, All-append}
 use Rattle.std.proofs.lemmas.Bool.{and_parts, leb-true, eqb-true, cond_both}
-use Rattle.rows.specs.Keepers.{Kept, Sound, All}
+use Rattle.rows.specs.Keepers.{Kept, Sound}
 use Rattle.rows.specs.Makes.{all_rows, all_rows_fit, width_fits, count_fits, row_of, rows_of, both, both_fit, nothing}
 
-nothing_sound : {C : Type 0} → Sound {C = C} nothing
-nothing_sound = record { few = lit≤ tt; even = tt }
-
-all_map : {A B : Type 0} (P : B → Type 0) (f : A → B) (xs : List A) → ((x : A) → P (f x)) → All P (map f xs)
-all_map P f [] h = tt
-all_map P f (x ∷ xs) h = (h x, all_map P f xs h)
-
-all_append : {A : Type 0} (P : A → Type 0) (xs ys : List A) → All P xs → All P ys → All P (xs ++ ys)
-all_append P [] ys p q = q
-all_append P (x ∷ xs) ys p q = (p.0, all_append P xs ys p.1 q)
+-- of any width, with no rows
+pub no_rows_sound : {C : Type 0} (width : ℕ) → Sound {C = C} (record { width = width; rows = [] })
+no_rows_sound width = record { few = lit≤ tt; even = λ k d none. absurd (not-suc-le-zero none) }
 
 rows_even : {C : Type 0} (d : C) (width count : ℕ) (cells : List C) →
     All (λ row. length row ≡ width) (rows_of d width count cells)
 rows_even d width count cells =
-    all_map (λ row. length row ≡ width) (row_of d width count cells) (range_with_len 0 count) (λ r. length-map-range_with_len _ 0 width)
+    All-map (λ row. length row ≡ width) (row_of d width count cells) (range_with_len 0 count)
+    (λ r n h. length-map-range_with_len _ 0 width)
 
 pub all_rows_sound : {C : Type 0} (d : C) (width count : ℕ) (cells : List C) → Sound (all_rows d width count cells)
 all_rows_sound {C} d width count cells =
@@ -33,7 +28,7 @@ all_rows_sound {C} d width count cells =
     let few = leb-true count 512 (and_parts (width_fits width) (count_fits count) counts).1 in
     let all = length-map-range_with_len (row_of d width count cells) 0 count in
     record { few = omega arith; even = rows_even d width count cells })
-    (λ e. nothing_sound)
+    (λ e. no_rows_sound 0)
 
 pub both_sound : {C : Type 0} (a b : Kept C) → Sound a → Sound b → Sound (both a b)
 both_sound {C} a b p q =
@@ -44,5 +39,5 @@ both_sound {C} a b p q =
     let all = length-append a.rows b.rows in
     let W : ℕ → Type 0 = λ w. All (λ (row : List C). length row ≡ w) b.rows in
     let second = subst W (sym (eqb-true a.width b.width parts.0)) q.even in
-    record { few = omega arith; even = all_append (λ row. length row ≡ a.width) a.rows b.rows p.even second })
-    (λ e. nothing_sound)
+    record { few = omega arith; even = All-append (λ row. length row ≡ a.width) a.rows b.rows p.even second })
+    (λ e. no_rows_sound 0)

@@ -11,6 +11,7 @@ use crate::turn::Turn;
 use fault::Fault;
 use scalar::{Arithmetic, Scalar};
 
+// The counts stand beside the caller's slice, since nothing here allocates.
 #[derive(Drop)]
 pub struct AllRows<'a, T> {
     width: usize,

@@ -22,6 +22,7 @@ fn together<T: Scalar, A: Keeper<T>, B: Keeper<T>>(first: &A, second: &B) -> usi
     first.rows() + second.rows()
 }
 
+// Asked at each call: a ghost field that ties a flag in `Both` to its keepers would need T in the public type.
 fn fit<T: Scalar, A: Keeper<T>, B: Keeper<T>>(first: &A, second: &B) -> bool
     ensures { result ≡ both_fit (A.Keeper.kept first.now) (B.Keeper.kept second.now) }
 {

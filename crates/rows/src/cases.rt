@@ -10,6 +10,7 @@ use crate::turn::Turn;
 use fault::Fault;
 
 // The row (1, 0) turned forward with c 0 and s 1: (0, −1).
+#[tactic(auto, using(crate::proofs::Quarter::quarter))]
 pub fn quarter_turn() -> Result<(f64, f64), Fault>
     ensures row { answered result ≡ given (float_zero, fin true 1 (pos 0)) }
 {

@@ -1,5 +1,5 @@
 // Rows that stand in a slice column by column: the entry of row r and column i at r + i * count.
-ghost use Rattle.std.specs.Prelude.{◌≡◌, ◌+◌, ◌*◌, ◌<◌, true, map, length, slice_index_or};
+ghost use Rattle.std.specs.Prelude.{◌≡◌, ◌+◌, ◌*◌, ◌<◌, true, map, length, get_or};
 ghost use Rattle.rows.specs.Makes.{all_rows_fit, entries_turned, rows_of};
 ghost use Rattle.rows.specs.Turns.{turned};
 
@@ -8,7 +8,7 @@ use scalar::{Arithmetic, Scalar};
 
 pub(crate) fn entry<T: Scalar>(cells: &[T], count: usize, row: usize, column: usize) -> T
     requires { row + column * count < length cells.now }
-    ensures { result ≡ slice_index_or cells.now (row + column * count) T.Arithmetic.ops.zero }
+    ensures { result ≡ get_or cells.now (row + column * count) T.Arithmetic.ops.zero }
 {
     cells[row + column * count]
 }
@@ -17,7 +17,8 @@ pub(crate) fn entry<T: Scalar>(cells: &[T], count: usize, row: usize, column: us
 fn turn_entries<T: Scalar>(cells: &mut [T], x: usize, y: usize, c: T::Real, t: T, u: T)
     requires at_x { x < length cells.old }
     requires at_y { y < length cells.old }
-    ensures { cells.new ≡ entries_turned T.Arithmetic.ops c t u x y cells.old }
+    requires opposite { u ≡ T.Arithmetic.ops.neg (T.Arithmetic.ops.conj t) }
+    ensures { cells.new ≡ entries_turned T.Arithmetic.ops c t x y cells.old }
 {
     let a = cells[x];
     let b = cells[y];
@@ -26,6 +27,7 @@ fn turn_entries<T: Scalar>(cells: &mut [T], x: usize, y: usize, c: T::Real, t: T
 }
 
 // Turns two columns of every row: one pass over two columns side by side.
+#[tactic(auto, using(crate::proofs::Rotations::one_more, crate::proofs::Rotations::all_turned))]
 pub(crate) fn rotate<T: Scalar>(cells: &mut [T], width: usize, count: usize, turn: &Turn<T::Real>)
     requires fit { all_rows_fit width count (length cells.old) ≡ true }
     requires inside { turn.now.column + 1 < width }

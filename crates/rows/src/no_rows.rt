@@ -1,8 +1,8 @@
 // A keeper of no rows: a run then finds the values alone.
 ghost use Rattle.std.specs.Prelude.{◌≡◌, []};
-ghost use Rattle.std.proofs.Common.{lit≤};
 ghost use Rattle.rows.specs.Keepers.{answered};
 ghost use Rattle.rows.specs.Makes.{no_rows_check, no_rows_width, width_fits};
+ghost use Rattle.rows.specs.Sounds.{no_rows_sound};
 
 use crate::keeper::Keeper;
 use crate::turn::Turn;
@@ -44,7 +44,7 @@ impl NoRows {
 impl<T: Scalar> Keeper<T> for NoRows {
     ghost kept = { λ k. record { width = k.width; rows = [] } };
 
-    ghost sound = { λ k. record { few = lit≤ tt; even = tt } };
+    ghost sound = { λ k. no_rows_sound k.width };
 
     fn width(&self) -> usize {
         self.width
