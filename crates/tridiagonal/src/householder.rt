@@ -16,11 +16,11 @@ pub(crate) struct Reported<T: Copy> {
 // Makes the column the axis of the reflection that leaves only its first entry.
 pub(crate) fn reflection_axis_mut<T: Scalar>(column: &mut [T]) -> Reported<T>
     requires { 0 < length column.old }
-    ensures norm { result.norm ≡ axis_norm (kind T.Arithmetic.ops T.Real.Arithmetic.ops T.Real.RealScalar.real)
+    ensures norm { result.norm ≡ axis_norm (kind T.ops T.Real.ops T.Real.real)
         column.old }
-    ensures reflects { result.reflects ≡ axis_reflects (kind T.Arithmetic.ops T.Real.Arithmetic.ops T.Real.RealScalar.real)
+    ensures reflects { result.reflects ≡ axis_reflects (kind T.ops T.Real.ops T.Real.real)
         column.old }
-    ensures axis { column.new ≡ axis_of (kind T.Arithmetic.ops T.Real.Arithmetic.ops T.Real.RealScalar.real)
+    ensures axis { column.new ≡ axis_of (kind T.ops T.Real.ops T.Real.real)
         column.old }
 {
     let squared = norm_squared(column);

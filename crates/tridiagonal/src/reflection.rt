@@ -8,7 +8,7 @@ use scalar::{Arithmetic, RealScalar, Scalar};
 // Reflects the column at the plane through zero across the axis, and multiplies it by the sign.
 pub(crate) fn reflect_with_sign<T: Scalar>(axis: &[T], column: &mut [T], sign: T)
     requires { length axis.now ≡ length column.old }
-    ensures { column.new ≡ reflected (kind T.Arithmetic.ops T.Real.Arithmetic.ops T.Real.RealScalar.real)
+    ensures { column.new ≡ reflected (kind T.ops T.Real.ops T.Real.real)
         axis.now sign column.old }
 {
     let minus_two = sign.scale(T::Real::literal_minus_two());
