@@ -64,7 +64,7 @@ axcpy_of o a xs b ys = zipped (λ u y. o.add (o.mul (o.mul a u) o.one) (o.mul b 
 unfoldable pub axpy_of : {C R : Type 0} → Ops C R → C → List C → C → List C → List C
 axpy_of o a xs b ys = cond (o.is_zero b) (axc_of o a xs) (axcpy_of o a xs b ys)
 
-unfoldable pub norm_squared_of : {C R : Type 0} → Ops C R → List C → R
+abbrev pub norm_squared_of : {C R : Type 0} → Ops C R → List C → R
 norm_squared_of o xs = o.real (dotc_of o xs xs)
 
 abbrev pub norm_of : {C R : Type 0} → Ops C R → RealOps R → List C → R
@@ -73,5 +73,5 @@ norm_of o r xs = r.root (norm_squared_of o xs)
 abbrev pub unscaled : {C R : Type 0} → Ops C R → R → List C → List C
 unscaled o d xs = map (λ x. o.unscale x d) xs
 
-unfoldable pub normalised : {C R : Type 0} → Ops C R → RealOps R → List C → List C
+abbrev pub normalised : {C R : Type 0} → Ops C R → RealOps R → List C → List C
 normalised o r xs = unscaled o (norm_of o r xs) xs

@@ -9,14 +9,16 @@ ghost use Rattle.tridiagonal.specs.Tables.{lower, put};
 use crate::sums::{Sums, plus_product};
 use scalar::{Arithmetic, RealScalar, Scalar};
 
-// The eight running sums over all whole chunks of eight entries.
+// The eight running sums over all whole chunks of eight entries. By index: a zip of two chunks_exact asks both for their end
+// at each chunk, and took a quarter longer.
 fn chunk_sums<T: Scalar>(x: &[T], y: &[T]) -> Sums<T>
     requires { length x.now ≡ length y.now }
     ensures { result ≡ running_sums T.ops (length x.now / 8) (no_sums T.ops) x.now y.now }
 {
     let mut sums = Sums::zero();
-    for (xs, ys) in x.chunks_exact(8).zip(y.chunks_exact(8)) {
-        sums = sums.plus_products(xs, ys);
+    for k in 0..x.len() / 8 {
+        let (from, to) = (8 * k, 8 * k + 8);
+        sums = sums.plus_products(&x[from..to], &y[from..to]);
     }
     sums
 }
@@ -47,7 +49,7 @@ pub(crate) fn axc<T: Scalar>(y: &mut [T], a: T, x: &[T])
     }
 }
 
-// y becomes ((a·u)·1) + (b·y) for each entry u of x.
+// y becomes ((a·u)·1) + (b·y) for each entry u of x. No axc at a second factor of zero: that would add a zero, and read y.
 fn axcpy<T: Scalar>(y: &mut [T], a: T, x: &[T], b: T)
     requires { length x.now ≡ length y.old }
     ensures { y.new ≡ axcpy_of T.ops a x.now b y.old }
@@ -58,6 +60,7 @@ fn axcpy<T: Scalar>(y: &mut [T], a: T, x: &[T], b: T)
     }
 }
 
+#[tactic(auto, unfolding(crate::specs::Blas::axpy_of))]
 pub(crate) fn axpy<T: Scalar>(y: &mut [T], a: T, x: &[T], b: T)
     requires { length x.now ≡ length y.old }
     ensures { y.new ≡ axpy_of T.ops a x.now b y.old }
@@ -97,7 +100,8 @@ pub(crate) fn normalise<T: Scalar>(x: &mut [T])
     unscale(x, norm);
 }
 
-// Column j of a table of n rows, from row r down.
+// Column j of a table of n rows, from row r down. A column to be written is lent where it is written: a function that
+// lends the middle of a slice gets no generated proof of what becomes of the slice.
 pub(crate) fn column<T: Scalar>(table: &[T], n: usize, j: usize, r: usize) -> &[T]
     requires rows { r ≤ n }
     requires held { j * n + n ≤ length table.now }
@@ -106,7 +110,7 @@ pub(crate) fn column<T: Scalar>(table: &[T], n: usize, j: usize, r: usize) -> &[
     &table[j * n + r..j * n + n]
 }
 
-// The first column of a Hermitian matrix-vector product: p is written and not read.
+// The first column of a Hermitian matrix-vector product: p is written and not read, where a further column adds to it.
 fn hegemv_first<T: Scalar>(alpha: T, column: &[T], x: &[T], p: &mut [T])
     requires some { 0 < length x.now }
     requires as_x { length column.now ≡ length x.now }
