@@ -1,6 +1,5 @@
 mod Accepted
 mod Assembled
-mod Axes
 mod Columns
 mod Dots
 mod Entries

@@ -1,83 +1,39 @@
 // Sums over columns, in the order in which they round.
-ghost use Rattle.std.specs.Prelude.{◌≡◌, ◌+◌, ◌-◌, ◌*◌, ◌^◌, ◌<◌, ◌≤◌, ◌∷◌, length, take, drop};
+ghost use Rattle.std.specs.Prelude.{◌≡◌, ◌+◌, ◌-◌, ◌*◌, ◌/◌, ◌<◌, ◌≤◌, ◌∷◌, length, take, drop};
 ghost use borrow.Rule.Slice.PartMut.{put_mid};
-ghost use Rattle.tridiagonal.specs.Blas.{plus_product, no_sums, eight_at, gathered, dotc_of};
+ghost use Rattle.tridiagonal.specs.Blas.{no_sums, running_sums, dotc_of};
 ghost use Rattle.tridiagonal.specs.Blas.{axc_of, axcpy_of, axpy_of, norm_squared_of, norm_of, unscaled, normalised};
 ghost use Rattle.tridiagonal.specs.Hermitian.{row_sum, below_sum, first_sum, first_column, hegemv_of, hegerc_of};
 ghost use Rattle.tridiagonal.specs.Tables.{lower, put};
 
-use crate::sums::Sums;
+use crate::sums::{Sums, plus_product};
 use scalar::{Arithmetic, RealScalar, Scalar};
 
-// The sum, and the product at one place: the conjugate of x's entry with y's.
-fn plus_product<T: Scalar>(sum: T, x: &[T], y: &[T], i: usize) -> T
-    requires in_x { i < length x.now }
-    requires in_y { i < length y.now }
-    ensures { result ≡ plus_product T.Arithmetic.ops sum x.now y.now i }
+// The eight running sums over all whole chunks of eight entries. By index: a zip of two chunks_exact asks both for their end
+// at each chunk, and took a quarter longer.
+fn chunk_sums<T: Scalar>(x: &[T], y: &[T]) -> Sums<T>
+    requires { length x.now ≡ length y.now }
+    ensures { result ≡ running_sums T.ops (length x.now / 8) (no_sums T.ops) x.now y.now }
 {
-    sum.add(x[i].conjugate().mul(y[i]))
-}
-
-fn no_sums<T: Scalar>() -> Sums<T>
-    ensures { result ≡ no_sums T.Arithmetic.ops }
-{
-    let zero = T::zero();
-    Sums {
-        s0: zero,
-        s1: zero,
-        s2: zero,
-        s3: zero,
-        s4: zero,
-        s5: zero,
-        s6: zero,
-        s7: zero,
+    let mut sums = Sums::zero();
+    for k in 0..x.len() / 8 {
+        let (from, to) = (8 * k, 8 * k + 8);
+        sums = sums.plus_products(&x[from..to], &y[from..to]);
     }
-}
-
-// Each of the eight sums takes one of the next eight products.
-fn eight_more<T: Scalar>(sums: Sums<T>, x: &[T], y: &[T], i: usize) -> Sums<T>
-    requires in_x { i + 8 ≤ length x.now }
-    requires in_y { i + 8 ≤ length y.now }
-    ensures { result ≡ eight_at T.Arithmetic.ops sums x.now y.now i }
-{
-    Sums {
-        s0: plus_product(sums.s0, x, y, i),
-        s1: plus_product(sums.s1, x, y, i + 1),
-        s2: plus_product(sums.s2, x, y, i + 2),
-        s3: plus_product(sums.s3, x, y, i + 3),
-        s4: plus_product(sums.s4, x, y, i + 4),
-        s5: plus_product(sums.s5, x, y, i + 5),
-        s6: plus_product(sums.s6, x, y, i + 6),
-        s7: plus_product(sums.s7, x, y, i + 7),
-    }
-}
-
-// The eight sums, added up in pairs.
-fn gather<T: Scalar>(sums: Sums<T>) -> T
-    ensures { result ≡ gathered T.Arithmetic.ops sums }
-{
-    let sum = T::zero().add(sums.s0.add(sums.s4));
-    let sum = sum.add(sums.s1.add(sums.s5));
-    let sum = sum.add(sums.s2.add(sums.s6));
-    sum.add(sums.s3.add(sums.s7))
+    sums
 }
 
 // The dot product of the conjugate of x with y: eight running sums while eight entries are left, added up in
 // pairs, and then the entries that are left.
 pub(crate) fn dotc<T: Scalar>(x: &[T], y: &[T]) -> T
     requires { length x.now ≡ length y.now }
-    ensures { result ≡ dotc_of T.Arithmetic.ops x.now y.now }
+    ensures { result ≡ dotc_of T.ops x.now y.now }
 {
-    let n = x.len();
-    let mut sums = no_sums();
-    let mut i = 0;
-    while n - i >= 8 {
-        sums = eight_more(sums, x, y, i);
-        i += 8;
-    }
-    let mut sum = gather(sums);
-    for k in i..n {
-        sum = plus_product(sum, x, y, k);
+    let mut sum = chunk_sums(x, y).gather();
+    let x_rest = x.chunks_exact(8).remainder();
+    let y_rest = y.chunks_exact(8).remainder();
+    for (u, v) in x_rest.iter().zip(y_rest) {
+        sum = plus_product(sum, *u, *v);
     }
     sum
 }
@@ -85,28 +41,29 @@ pub(crate) fn dotc<T: Scalar>(x: &[T], y: &[T]) -> T
 // y becomes (a·u)·1 for each entry u of x: axpy where y's factor is zero.
 pub(crate) fn axc<T: Scalar>(y: &mut [T], a: T, x: &[T])
     requires { length x.now ≡ length y.old }
-    ensures { y.new ≡ axc_of T.Arithmetic.ops a x.now }
+    ensures { y.new ≡ axc_of T.ops a x.now }
 {
     let one = T::one();
-    for i in 0..y.len() {
-        y[i] = a.mul(x[i]).mul(one);
+    for (i, entry) in y.iter_mut().enumerate() {
+        *entry = a.mul(x[i]).mul(one);
     }
 }
 
-// y becomes ((a·u)·1) + (b·y) for each entry u of x.
+// y becomes ((a·u)·1) + (b·y) for each entry u of x. No axc at a second factor of zero: that would add a zero, and read y.
 fn axcpy<T: Scalar>(y: &mut [T], a: T, x: &[T], b: T)
     requires { length x.now ≡ length y.old }
-    ensures { y.new ≡ axcpy_of T.Arithmetic.ops a x.now b y.old }
+    ensures { y.new ≡ axcpy_of T.ops a x.now b y.old }
 {
     let one = T::one();
-    for i in 0..y.len() {
-        y[i] = a.mul(x[i]).mul(one).add(b.mul(y[i]));
+    for (i, entry) in y.iter_mut().enumerate() {
+        *entry = a.mul(x[i]).mul(one).add(b.mul(*entry));
     }
 }
 
+#[tactic(auto, unfolding(crate::specs::Blas::axpy_of))]
 pub(crate) fn axpy<T: Scalar>(y: &mut [T], a: T, x: &[T], b: T)
     requires { length x.now ≡ length y.old }
-    ensures { y.new ≡ axpy_of T.Arithmetic.ops a x.now b y.old }
+    ensures { y.new ≡ axpy_of T.ops a x.now b y.old }
 {
     if b.is_zero() {
         axc(y, a, x);
@@ -116,34 +73,35 @@ pub(crate) fn axpy<T: Scalar>(y: &mut [T], a: T, x: &[T], b: T)
 }
 
 pub(crate) fn norm_squared<T: Scalar>(x: &[T]) -> T::Real
-    ensures { result ≡ norm_squared_of T.Arithmetic.ops x.now }
+    ensures { result ≡ norm_squared_of T.ops x.now }
 {
     dotc(x, x).real()
 }
 
 pub(crate) fn norm<T: Scalar>(x: &[T]) -> T::Real
-    ensures { result ≡ norm_of T.Arithmetic.ops T.Real.RealScalar.real x.now }
+    ensures { result ≡ norm_of T.ops T.Real.real x.now }
 {
     norm_squared(x).sqrt()
 }
 
 // Every entry is divided by the real number.
 pub(crate) fn unscale<T: Scalar>(x: &mut [T], divisor: T::Real)
-    ensures { x.new ≡ unscaled T.Arithmetic.ops divisor x.old }
+    ensures { x.new ≡ unscaled T.ops divisor x.old }
 {
-    for i in 0..x.len() {
-        x[i] = x[i].unscale(divisor);
+    for entry in x.iter_mut() {
+        *entry = entry.unscale(divisor);
     }
 }
 
 pub(crate) fn normalise<T: Scalar>(x: &mut [T])
-    ensures { x.new ≡ normalised T.Arithmetic.ops T.Real.RealScalar.real x.old }
+    ensures { x.new ≡ normalised T.ops T.Real.real x.old }
 {
     let norm = norm(x);
     unscale(x, norm);
 }
 
-// Column j of a table of n rows, from row r down.
+// Column j of a table of n rows, from row r down. A column to be written is lent where it is written: a function that
+// lends the middle of a slice gets no generated proof of what becomes of the slice.
 pub(crate) fn column<T: Scalar>(table: &[T], n: usize, j: usize, r: usize) -> &[T]
     requires rows { r ≤ n }
     requires held { j * n + n ≤ length table.now }
@@ -152,13 +110,13 @@ pub(crate) fn column<T: Scalar>(table: &[T], n: usize, j: usize, r: usize) -> &[
     &table[j * n + r..j * n + n]
 }
 
-// The first column of a Hermitian matrix-vector product: p is written and not read.
+// The first column of a Hermitian matrix-vector product: p is written and not read, where a further column adds to it.
 fn hegemv_first<T: Scalar>(alpha: T, column: &[T], x: &[T], p: &mut [T])
     requires some { 0 < length x.now }
     requires as_x { length column.now ≡ length x.now }
     requires as_p { length p.old ≡ length x.now }
-    ensures { p.new ≡ first_sum T.Arithmetic.ops alpha column.now x.now ∷
-        drop 1 (first_column T.Arithmetic.ops alpha column.now x.now) }
+    ensures { p.new ≡ first_sum T.ops alpha column.now x.now ∷
+        drop 1 (first_column T.ops alpha column.now x.now) }
 {
     axc(p, alpha.mul(x[0]), column);
     p[0] = p[0].add(alpha.mul(dotc(&column[1..], &x[1..])));
@@ -169,8 +127,8 @@ fn hegemv_column<T: Scalar>(alpha: T, column: &[T], x: &[T], p: &mut [T])
     requires some { 0 < length x.now }
     requires as_x { length column.now ≡ length x.now }
     requires as_p { length p.old ≡ length x.now }
-    ensures { p.new ≡ row_sum T.Arithmetic.ops alpha column.now x.now p.old ∷
-        below_sum T.Arithmetic.ops alpha column.now x.now p.old }
+    ensures { p.new ≡ row_sum T.ops alpha column.now x.now p.old ∷
+        below_sum T.ops alpha column.now x.now p.old }
 {
     p[0] = p[0].add(alpha.mul(dotc(column, x)));
     axpy(&mut p[1..], alpha.mul(x[0]), &column[1..], T::one());
@@ -183,7 +141,7 @@ pub(crate) fn hegemv<T: Scalar>(t: &[T], n: usize, k: usize, alpha: T, x: &[T], 
     requires held { length t.now ≡ (n - k) * n }
     requires as_x { length x.now ≡ n - k }
     requires as_p { length p.old ≡ n - k }
-    ensures { p.new ≡ hegemv_of T.Arithmetic.ops alpha (lower n k (n - k) t.now) x.now }
+    ensures { p.new ≡ hegemv_of T.ops alpha (lower n k (n - k) t.now) x.now }
 {
     hegemv_first(alpha, column(t, n, 0, k), x, p);
     for j in 1..n - k {
@@ -197,7 +155,7 @@ fn axpy_column<T: Scalar>(t: &mut [T], n: usize, j: usize, r: usize, a: T, x: &[
     requires held { j * n + n ≤ length t.old }
     requires as_x { length x.now ≡ n - r }
     ensures { t.new ≡ put_mid (j * n + r) (j * n + n - (j * n + r)) t.old
-        (axpy_of T.Arithmetic.ops a x.now T.Arithmetic.ops.one (take (n - r) (drop (j * n + r) t.old))) }
+        (axpy_of T.ops a x.now T.ops.one (take (n - r) (drop (j * n + r) t.old))) }
 {
     axpy(&mut t[j * n + r..j * n + n], a, x, T::one());
 }
@@ -208,9 +166,9 @@ pub(crate) fn hegerc<T: Scalar>(t: &mut [T], n: usize, k: usize, alpha: T, x: &[
     requires held { length t.old ≡ (n - k) * n }
     requires as_x { length x.now ≡ n - k }
     requires as_y { length y.now ≡ n - k }
-    ensures table { t.new ≡ put n k (n - k) (hegerc_of T.Arithmetic.ops alpha x.now y.now
+    ensures table { t.new ≡ put n k (n - k) (hegerc_of T.ops alpha x.now y.now
         (lower n k (n - k) t.old)) t.old }
-    ensures lower { lower n k (n - k) t.new ≡ hegerc_of T.Arithmetic.ops alpha x.now y.now
+    ensures lower { lower n k (n - k) t.new ≡ hegerc_of T.ops alpha x.now y.now
         (lower n k (n - k) t.old) }
 {
     for j in 0..n - k {

@@ -6,7 +6,7 @@ use crate::blas::{norm_squared, normalise, unscale};
 use scalar::{Arithmetic, RealScalar, Scalar};
 
 // What making an axis reports: the first entry that the column would have after the reflection, and whether
-// there is a reflection at all.
+// there is a reflection at all. Two fields and no Option: the norm counts in both cases.
 #[derive(Clone, Copy)]
 pub(crate) struct Reported<T: Copy> {
     pub(crate) norm: T,
@@ -14,14 +14,12 @@ pub(crate) struct Reported<T: Copy> {
 }
 
 // Makes the column the axis of the reflection that leaves only its first entry.
+#[tactic(auto, unfolding(crate::specs::Householder::signed_norm, crate::specs::Householder::axis_factor, crate::specs::Householder::axis_reflects, crate::specs::Householder::axis_norm, crate::specs::Householder::first_moved, crate::specs::Householder::axis_of,))]
 pub(crate) fn reflection_axis_mut<T: Scalar>(column: &mut [T]) -> Reported<T>
     requires { 0 < length column.old }
-    ensures norm { result.norm ≡ axis_norm (kind T.Arithmetic.ops T.Real.Arithmetic.ops T.Real.RealScalar.real)
-        column.old }
-    ensures reflects { result.reflects ≡ axis_reflects (kind T.Arithmetic.ops T.Real.Arithmetic.ops T.Real.RealScalar.real)
-        column.old }
-    ensures axis { column.new ≡ axis_of (kind T.Arithmetic.ops T.Real.Arithmetic.ops T.Real.RealScalar.real)
-        column.old }
+    ensures norm { result.norm ≡ axis_norm (kind T.ops T.Real.ops T.Real.real) column.old }
+    ensures reflects { result.reflects ≡ axis_reflects (kind T.ops T.Real.ops T.Real.real) column.old }
+    ensures axis { column.new ≡ axis_of (kind T.ops T.Real.ops T.Real.real) column.old }
 {
     let squared = norm_squared(column);
     let norm = squared.sqrt();

@@ -6,10 +6,10 @@ use crate::blas::{axpy, dotc};
 use scalar::{Arithmetic, RealScalar, Scalar};
 
 // Reflects the column at the plane through zero across the axis, and multiplies it by the sign.
+#[tactic(auto, unfolding(crate::specs::Householder::reflected))]
 pub(crate) fn reflect_with_sign<T: Scalar>(axis: &[T], column: &mut [T], sign: T)
     requires { length axis.now ≡ length column.old }
-    ensures { column.new ≡ reflected (kind T.Arithmetic.ops T.Real.Arithmetic.ops T.Real.RealScalar.real)
-        axis.now sign column.old }
+    ensures { column.new ≡ reflected (kind T.ops T.Real.ops T.Real.real) axis.now sign column.old }
 {
     let minus_two = sign.scale(T::Real::literal_minus_two());
     let factor = dotc(axis, column).sub(T::zero()).mul(minus_two);

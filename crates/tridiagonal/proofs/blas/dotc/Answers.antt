@@ -1,34 +1,31 @@
-use Rattle.std.proofs.Common.{◌-◌, ◌<◌, ◌≤◌, length, drop, sym, ◌∙◌, arith}
-use Rattle.tridiagonal.proofs.Dots.{dotc_start, dotc_more, dotc_tail, products_more, products_all}
+use Rattle.std.proofs.Common.{◌≡◌, ◌-◌, ◌%◌, ◌/◌, length, drop, sym, ap, ◌∙◌}
+use Rattle.std.specs.Iterator.Adapters.{zip_first, zip_second}
+use Rattle.std.specs.Slice.Iter.{iter_rest}
+use Rattle.std.proofs.lemmas.Slice.Zip.{Zip-more, either_empty_from_Zip}
+use Rattle.tridiagonal.specs.Blas.{no_sums, gathered, running_sums, dotc_of}
+use Rattle.tridiagonal.proofs.Dots.{products_more, products_end}
 use Rattle.tridiagonal.proofs.blas.dotc.Goals as goal
 
-pub loop-i-init : goal.loop-i-init
-loop-i-init g c =
-    (omega arith, dotc_start g.T.Arithmetic.ops c.no_sums-sums.result c.args.x.now c.args.y.now c.no_sums-sums.ensures)
+pub loop-u-init : goal.loop-u-init
+unfolding dotc_of
+loop-u-init g c =
+    let o = g.T.Arithmetic.ops in
+    let x = c.args.x.now in
+    let y = c.args.y.now in
+    let it = c.into_iter-u-iterator.result in
+    let left_x : iter_rest (zip_first it) ≡ drop (length x - length x % 8) x = cc in
+    let left_y : iter_rest (zip_second it) ≡ drop (length y - length y % 8) y = cc in
+    let sum : c.gather-sum.result ≡ gathered o (running_sums o (length x / 8) (no_sums o) x y) =
+    c.gather-sum.ensures ∙ ap (gathered o) c.chunk_sums.ensures in
+    rw (left_x, left_y, sum)
 
-pub loop-i-preserved : goal.loop-i-preserved
-loop-i-preserved g c =
-    let h : 8 ≤ length c.args.x.now - c.loop-i.i = omega arith in (
-      omega arith,
-      dotc_more g.T.Arithmetic.ops c.args.x.now c.args.y.now c.loop-i.i (length c.args.x.now) c.loop-i.sums
-          c.eight_more-sums.result h c.eight_more-sums.ensures ∙ c.loop-i.invariant.1,
-    )
-
-pub loop-k-init : goal.loop-k-init
-loop-k-init g c =
-    let h : length c.args.x.now - c.loop-i.i < 8 = omega arith in
-    dotc_tail g.T.Arithmetic.ops (drop c.loop-i.i c.args.x.now) (drop c.loop-i.i c.args.y.now)
-    (length c.args.x.now - c.loop-i.i) c.loop-i.sums c.gather-sum.result h c.gather-sum.ensures ∙ c.loop-i.invariant.1
-
-pub loop-k-preserved : goal.loop-k-preserved
-loop-k-preserved g c =
-    let in_x : c.loop-k.k < length c.args.x.now = omega arith in
-    let in_y : c.loop-k.k < length c.args.y.now = omega arith in
-    products_more g.T.Arithmetic.ops c.args.x.now c.args.y.now c.loop-k.k c.loop-k.sum
-    c.plus_product-sum.result in_x in_y c.plus_product-sum.ensures ∙ c.loop-k.invariant
+pub loop-u-preserved : goal.loop-u-preserved
+loop-u-preserved g c =
+    let step = Zip-more c.loop-u.u-iterator c.next.new.self c.next.result (c.in-Some.u, c.in-Some.v) c.in-Some.is c.next.ensures.steps in
+    products_more g.T.Arithmetic.ops c.loop-u.sum c.plus_product-sum.result c.in-Some.u.now c.in-Some.v.now _ _ _ _
+    step.0 step.1 c.plus_product-sum.ensures ∙ c.loop-u.invariant
 
 pub returns : goal.returns
 returns g c =
-    let past : length c.args.x.now ≤ c.loop-k.k = omega arith in
-    sym (products_all g.T.Arithmetic.ops c.args.x.now (drop c.loop-k.k c.args.y.now) c.loop-k.k c.loop-k.sum past)
-    ∙ c.loop-k.invariant
+    let none = either_empty_from_Zip c.loop-u.u-iterator c.next.new.self c.next.result c.in-None.is c.next.ensures.steps in
+    sym (products_end g.T.Arithmetic.ops c.loop-u.sum _ _ none) ∙ c.loop-u.invariant

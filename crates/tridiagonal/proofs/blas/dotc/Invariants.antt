@@ -1,19 +1,11 @@
-use Rattle.std.proofs.Common.{◌≡◌, ◌-◌, ◌/◌, ◌≤◌, drop}
-use Rattle.tridiagonal.specs.Blas.{dotc_from, dotc_of, plus_products}
+use Rattle.std.proofs.Common.{◌≡◌}
+use Rattle.std.specs.Iterator.Adapters.{zip_first, zip_second}
+use Rattle.std.specs.Slice.Iter.{iter_rest}
+use Rattle.tridiagonal.specs.Blas.{dotc_of, plus_products}
 use Rattle.tridiagonal.proofs.blas.dotc.Given as goal
 
--- What is left, with the sums so far, gives the whole.
-abbrev pub invariant-loop-i : goal.invariant-loop-i
-invariant-loop-i g l =
-    (l.i ≤ l.n) ×
-    (dotc_from g.T.Arithmetic.ops ((l.n - l.i) / 8)
-    l.sums
-    (drop l.i l.x) (drop l.i l.y) ≡ dotc_of g.T.Arithmetic.ops l.x l.y)
-
-abbrev pub decreases-loop-i : goal.decreases-loop-i
-decreases-loop-i g l = l.n - l.i
-
-abbrev pub invariant-loop-k : goal.invariant-loop-k
-invariant-loop-k g l =
-    plus_products g.T.Arithmetic.ops l.sum (drop l.k l.x) (drop l.k l.y) ≡
+-- The entries that are left, with the sum so far, give the whole.
+abbrev pub invariant-loop-u : goal.invariant-loop-u
+invariant-loop-u g l =
+    plus_products g.T.Arithmetic.ops l.sum (iter_rest (zip_first l.u-iterator)) (iter_rest (zip_second l.u-iterator)) ≡
     dotc_of g.T.Arithmetic.ops l.x l.y
