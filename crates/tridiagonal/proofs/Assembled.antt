@@ -1,7 +1,7 @@
 -- The matrix Q, one entry or one column on.
-use Rattle.std.proofs.Common.{◌≡◌, ℕ, zero, suc, ◌+◌, ◌-◌, ◌*◌, ◌/◌, ◌%◌, ◌<◌, ◌≤◌, cond, eqb, List, [], ◌∷◌, ◌++◌, length, get_or, take, drop, set, sym, refl, ap, ◌∙◌, ⊎_elim, append_assoc, zero-mul, suc-mul, zero-add, add-zero, add-one, arith, length-append, length-drop, length-take-le, drop-drop, take-add}
+use Rattle.std.proofs.Common.{◌≡◌, ℕ, zero, suc, ◌+◌, ◌-◌, ◌*◌, ◌/◌, ◌%◌, ◌<◌, ◌≤◌, cond, eqb, List, [], ◌∷◌, ◌++◌, length, get_or, take, drop, set, sym, refl, ap, ap₂, ◌∙◌, ⊎_elim, append_assoc, zero-mul, suc-mul, zero-add, add-zero, add-one, arith, length-append, length-drop, length-take-le, drop-drop, take-add}
 use borrow.Rule.Slice.PartMut.{put_mid}
-use Rattle.std.proofs.lemmas.List.{drop-take, drop_more, drop_all, take_rest, get_or-append_right}
+use Rattle.std.proofs.lemmas.List.{drop-take, drop_more, drop_all, take_rest, take_more, take_more_set, get_or-append_right}
 use Rattle.std.proofs.lemmas.Bool.{cases_lt}
 use Rattle.std.proofs.Math.ListN.{get_or-append}
 use Rattle.std.proofs.Math.Nat.{mod-eq_of_lt, mod-eq-sub-mod, div-eq_of_lt, add-div_right}
@@ -13,7 +13,6 @@ use Rattle.tridiagonal.specs.Tables.{lower}
 use Rattle.tridiagonal.proofs.Columns.{column_next, lower_more}
 use Rattle.tridiagonal.proofs.Lent.{end_written}
 use Rattle.tridiagonal.proofs.Products.{length_axpy}
-use Rattle.tridiagonal.proofs.Writes.{write_out}
 
 module _ {C R : Type 0} (K : Kind C R) where
   unit_cons : (j i m : ℕ) → unit_from K j i (suc m) ≡ cond (eqb i j) K.ops.one K.ops.zero ∷ unit_from K j (suc i) m
@@ -78,14 +77,14 @@ module _ {C R : Type 0} (K : Kind C R) where
       omega arith))
       (cases_lt k n)
 
+  -- The first k entries are written, and now the next.
   pub identity_more : (n k : ℕ) (q : List C) (v : C) → 0 < n → k < n * n → k < length q →
-      v ≡ cond (eqb (k % n) (k / n)) K.ops.one K.ops.zero →
-      take (k + 1) (set q k v) ++ drop (k + 1) (identity_from K n 0 n) ≡ take k q ++ drop k (identity_from K n 0 n)
-  identity_more n k q v some h within is =
-      let I = identity_from K n 0 n in
-      let there : k < length I = let long = length_identity n 0 n in omega arith in
+      v ≡ cond (eqb (k % n) (k / n)) K.ops.one K.ops.zero → take k q ≡ take k (identity_from K n 0 n) →
+      take (k + 1) (set q k v) ≡ take (k + 1) (identity_from K n 0 n)
+  identity_more n k q v some h within is so_far =
+      let there : k < length (identity_from K n 0 n) = let long = length_identity n 0 n in omega arith in
       let here = identity_at n 0 n k v some h ∙ ap (λ (c : ℕ). cond (eqb (k % n) c) K.ops.one K.ops.zero) (zero-add (k / n)) ∙ sym is in
-      write_out (drop k I) (drop (k + 1) I) q k v within (drop_more I k v there ∙ ap (λ (w : C). w ∷ drop (k + 1) I) here)
+      take_more_set q k v within ∙ ap₂ (λ l w. l ++ (w ∷ [])) so_far (sym here) ∙ sym (take_more (identity_from K n 0 n) k v there)
 
   length_reflected : (axis ys : List C) (sign : C) → length axis ≡ length ys → length (reflected K axis sign ys) ≡ length ys
   unfolding reflected

@@ -80,7 +80,7 @@ module _ {C R : Type 0} (K : Kind C R) where
       let side : m ≡ n = cc in
       let largest : largest_size K given.table ≡ l = cc in
       let ok = accepted K m given.table (length given.values) (length given.offs) (length given.signs) (length given.scratch) e in
-      let long = ok.1.1.as_table in
+      let long = ok.as_table in
       record {
         long = long ∙ ap (λ (k : ℕ). k * k) side;
         values = run.values ∙ ap (λ z. unless_refused z given.values (values_of K m given.table)) e
@@ -100,7 +100,7 @@ module _ {C R : Type 0} (K : Kind C R) where
       }
   form_by n m l given left answer (Some why) e run is =
       let answered : Refused why ≡ Reduced n l = sym (run.answered ∙ ap (λ z. reduce_outcome z m (largest_size K given.table)) e) ∙ is in
-      let z : ◌≡◌ {A = ℕ} 0 1 = cc in let bad : ⊥ = omega arith in absurd bad
+      absurd (cc)
 
   pub only_lower : (n : ℕ) (given : Buffers C R) (answer : Outcome R) (left : Buffers C R) → ReduceRun K n given answer left →
       OnlyLower K (record { side = n; given = given; answer = answer; left = left })
