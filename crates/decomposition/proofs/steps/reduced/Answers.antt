@@ -18,7 +18,7 @@ returns g c =
     let K = kind g.T.Arithmetic.ops g.T.Real.Arithmetic.ops g.T.Real.RealScalar.real in
     let left = c.reduce.new in
     let kept = c.reduce.auto in
-    let told = c.in_ok-reduction.ensures in
+    let told = c.in_ok-reduction.ensures.run in
     let made = c.in_ok-reduction.reduction in
     let rt = with_items_is c.args.table left.table (kept.table ∙ c.deref_mut.ensures.len) in
     let rv = with_items_is c.in_ok-values.values left.values (kept.values ∙ c.deref_mut-2.ensures.len) in
@@ -35,6 +35,6 @@ returns g c =
           (ap length c.deref_mut-3.ensures.value ∙ c.in_ok-offs.ensures.count)
           (ap length c.deref_mut-4.ensures.value ∙ c.in_ok-signs.ensures.count)
           (ap length c.deref_mut-5.ensures.value ∙ c.in_ok-scratch.ensures.count)
-          made.some made.few told.answer (rt ∙ told.table) (rv ∙ told.values) (rf ∙ told.offs) (rs ∙ told.signs)
+          made.some made.few told.answered (rt ∙ told.table) (rv ∙ told.values) (rf ∙ told.offs) (rs ∙ told.signs)
           (ap length rt ∙ kept.table) (ap length rv ∙ kept.values) (ap length rf ∙ kept.offs) (ap length rs ∙ kept.signs);
     }
