@@ -117,20 +117,7 @@ module _ {C R : Type 0} (K : Kind C R) where
         q = ap (λ (cs : List (List C)). matrix_q K n cs left.signs) columns ∙ ap (matrix_q K n (lower n 0 n other.left.table)) signs;
       }
 
-  -- A call that is refused is a run, and so is one that is not.
-  pub refused_run : (n : ℕ) (given : Buffers C R) (answer : Outcome R) (why : Refusal) →
-      refusal_for K n given.table given.values given.offs given.signs given.scratch ≡ Some why →
-      answer ≡ Refused why → ReduceRun K n given answer given
-  refused_run n given answer why e is =
-      record {
-        answered = is ∙ sym (ap (λ z. reduce_outcome z n (largest_size K given.table)) e);
-        table = sym (ap (λ z. unless_refused z given.table (reduced_table K n given.table)) e);
-        values = sym (ap (λ z. unless_refused z given.values (values_of K n given.table)) e);
-        offs = sym (ap (λ z. unless_refused z given.offs (offs_of K n given.table)) e);
-        signs = sym (ap (λ z. unless_refused z given.signs (signs_of K n given.table)) e);
-        scratch = rw e refl;
-      }
-
+  -- A call that is not refused is a run.
   pub accepted_run : (n : ℕ) (given : Buffers C R) (answer : Outcome R) (left : Buffers C R) →
       refusal_for K n given.table given.values given.offs given.signs given.scratch ≡ None →
       answer ≡ Reduced n (largest_size K given.table) → left.table ≡ reduced_table K n given.table →
