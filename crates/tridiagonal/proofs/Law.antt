@@ -76,7 +76,7 @@ module _ {C R : Type 0} (K : Kind C R) where
       ReduceRun K m given answer left → answer ≡ Reduced n l → Form n l given left
   form_by n m l given left answer None e run is =
       let answered : Reduced m (largest_size K given.table) ≡ Reduced n l =
-      sym (run.answered ∙ ap (λ z. reduce_outcome z m (largest_size K given.table)) e) ∙ is in
+      sym (run.answer ∙ ap (λ z. reduce_outcome z m (largest_size K given.table)) e) ∙ is in
       let side : m ≡ n = cc in
       let largest : largest_size K given.table ≡ l = cc in
       let ok = accepted K m given.table (length given.values) (length given.offs) (length given.signs) (length given.scratch) e in
@@ -99,7 +99,7 @@ module _ {C R : Type 0} (K : Kind C R) where
             ∙ ap (λ (k : ℕ). reduced_lower K k l (lower k 0 k given.table)) side;
       }
   form_by n m l given left answer (Some why) e run is =
-      let answered : Refused why ≡ Reduced n l = sym (run.answered ∙ ap (λ z. reduce_outcome z m (largest_size K given.table)) e) ∙ is in
+      let answered : Refused why ≡ Reduced n l = sym (run.answer ∙ ap (λ z. reduce_outcome z m (largest_size K given.table)) e) ∙ is in
       absurd (cc)
 
   pub only_lower : (n : ℕ) (given : Buffers C R) (answer : Outcome R) (left : Buffers C R) → ReduceRun K n given answer left →
@@ -125,7 +125,7 @@ module _ {C R : Type 0} (K : Kind C R) where
       length left.scratch ≡ length given.scratch → ReduceRun K n given answer left
   accepted_run n given answer left e is t v f s c =
       record {
-        answered = is ∙ sym (ap (λ z. reduce_outcome z n (largest_size K given.table)) e);
+        answer = is ∙ sym (ap (λ z. reduce_outcome z n (largest_size K given.table)) e);
         table = t ∙ sym (ap (λ z. unless_refused z given.table (reduced_table K n given.table)) e);
         values = v ∙ sym (ap (λ z. unless_refused z given.values (values_of K n given.table)) e);
         offs = f ∙ sym (ap (λ z. unless_refused z given.offs (offs_of K n given.table)) e);

@@ -35,7 +35,7 @@ fn update<T: Scalar>(t: &mut [T], n: usize, k: usize, axis: &[T], p: &mut [T])
     hegerc(t, n, k, dot.mul(two), axis, axis);
 }
 
-// That, where there is a reflection.
+// That, where there is a reflection: a function of its own, so that the test is proved alone.
 fn update_where<T: Scalar>(reflects: bool, t: &mut [T], n: usize, k: usize, axis: &[T], p: &mut [T])
     requires some { k < n }
     requires held { length t.old ≡ (n - k) * n }

@@ -35,6 +35,6 @@ returns g c =
           (ap length c.deref_mut-3.ensures.value ∙ c.in_ok-offs.ensures.count)
           (ap length c.deref_mut-4.ensures.value ∙ c.in_ok-signs.ensures.count)
           (ap length c.deref_mut-5.ensures.value ∙ c.in_ok-scratch.ensures.count)
-          made.some made.few told.answered (rt ∙ told.table) (rv ∙ told.values) (rf ∙ told.offs) (rs ∙ told.signs)
+          made.some made.few told.answer (rt ∙ told.table) (rv ∙ told.values) (rf ∙ told.offs) (rs ∙ told.signs)
           (ap length rt ∙ kept.table) (ap length rv ∙ kept.values) (ap length rf ∙ kept.offs) (ap length rs ∙ kept.signs);
     }
