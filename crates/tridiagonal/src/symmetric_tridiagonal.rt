@@ -142,8 +142,8 @@ fn read_moduli<T: Scalar>(signs: &[T], offs: &mut [T::Real])
     }
 }
 
-// The reduction of a table that nothing is refused of. The buffers stay parameters, since of a struct of them each method
-// would promise of every field that it keeps its reference, and write what it leaves as self.exit.1.1.0.now.
+// The reduction of a table that nothing is refused of.
+// No struct of the buffers: a method of one would promise besides, of each of five fields, that it keeps its reference.
 fn reduce_accepted<T: Scalar>(
     n: usize,
     table: &mut [T],
