@@ -43,7 +43,8 @@ pub record ReduceRun {C R : Type 0} (K : Kind C R) (n : ℕ) (given : Buffers C 
 
 -- Two tables of side n are alike on and below the diagonal: the same number wherever the row is at least the column.
 abbrev pub AlikeBelow : {C : Type 0} → ℕ → List C → List C → Type 0
-AlikeBelow {C} n t u = (row column : ℕ) (d : C) → column ≤ row → row < n → slice_index_or t (column * n + row) d ≡ slice_index_or u (column * n + row) d
+AlikeBelow {C} n t u = (row column : ℕ) (d : C) → column ≤ row → row < n →
+    slice_index_or t (column * n + row) d ≡ slice_index_or u (column * n + row) d
 
 -- The same values, offs and signs are left, and the same Q is made of what is left.
 pub record SameForm {C R : Type 0} (K : Kind C R) (n : ℕ) (a b : Buffers C R) : Type 0 where

@@ -37,4 +37,5 @@ returns g c =
     let none : n - i ≡ 0 = omega arith in
     let full : length c.loop-i.values ≤ i = omega arith in
     sym (written c.loop-i.values (diagonal K (lower n i (n - i) (drop (i * n) t))) i full
-    (ap (λ (m : ℕ). diagonal K (lower n i m (drop (i * n) t))) none ∙ ap (diagonal K) (lower_none n i (drop (i * n) t)))) ∙ c.loop-i.invariant
+    (ap (λ (m : ℕ). diagonal K (lower n i m (drop (i * n) t))) none ∙ ap (diagonal K) (lower_none n i (drop (i * n) t))))
+    ∙ c.loop-i.invariant
