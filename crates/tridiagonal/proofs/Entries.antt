@@ -1,5 +1,5 @@
 -- The first entry whose size is not finite, by its place, and the largest size, by a fold.
-use Rattle.std.proofs.Common.{◌≡◌, ℕ, suc, ◌+◌, ◌/◌, ◌%◌, ◌<◌, Bool, true, false, not, cond, List, [], ◌∷◌, fold, length, get_or, drop, position, Some, None, Option, refl, ap, ◌∙◌, add-one}
+use Rattle.std.proofs.Common.{◌≡◌, ℕ, suc, ◌+◌, ◌/◌, ◌%◌, ◌<◌, Bool, true, false, not, cond, List, [], ◌∷◌, fold, length, get_or, drop, position, Some, None, Option, sym, refl, ap, ◌∙◌, add-one}
 use Rattle.std.specs.List.{position_from}
 use Rattle.std.proofs.lemmas.Iterator.Adapters.{position_from-zero}
 use Rattle.std.proofs.lemmas.List.{get_or_read}
@@ -25,8 +25,8 @@ module _ {C R : Type 0} (K : Kind C R) (n : ℕ) where
       cond b (entry_refusal K n (suc k) xs) (Some (refused 3 (k % n ∷ (k / n ∷ [])))))
       [ true ↦ ap (λ (m : ℕ). refused_at (position_from not_finite m xs)) (add-one k) ∙ refused_first (suc k) xs | false ↦ refl ]
 
-  pub entry_checked : (xs : List C) (place : Option ℕ) → place ≡ position not_finite xs → refused_at place ≡ entry_refusal K n 0 xs
-  entry_checked xs place e = ap refused_at (e ∙ position_from-zero not_finite xs) ∙ refused_first 0 xs
+  pub entry_checked : (xs : List C) → entry_refusal K n 0 xs ≡ refused_at (position not_finite xs)
+  entry_checked xs = sym (ap refused_at (position_from-zero not_finite xs) ∙ refused_first 0 xs)
 
 module _ {C R : Type 0} (K : Kind C R) where
   abbrev pub larger_size : R → C → R

@@ -15,6 +15,7 @@ fn first_not_finite<T: Scalar>(table: &[T]) -> Option<usize>
 }
 
 // The first entry whose size is not finite, by its row and column.
+#[tactic(auto, using(crate::proofs::Entries::entry_checked))]
 fn check_entries<T: Scalar>(n: usize, table: &[T]) -> Result<(), Fault>
     requires { 0 < n }
     ensures { refused_in result ≡ entry_refusal (kind T.ops T.Real.ops T.Real.real) n 0 table.now }

@@ -1,5 +1,5 @@
 // The matrix Q of a reduction.
-ghost use Rattle.std.specs.Prelude.{◌≡◌, ◌+◌, ◌-◌, ◌*◌, ◌<◌, ◌≤◌, length, if◌then◌else◌, nat_eq};
+ghost use Rattle.std.specs.Prelude.{◌≡◌, ◌+◌, ◌-◌, ◌*◌, ◌<◌, ◌≤◌, length, ◌==◌, if◌then◌else◌};
 ghost use Rattle.tridiagonal.specs.Assemble.{assemble_refusal, identity_from, matrix_q, reflected_columns};
 ghost use Rattle.tridiagonal.specs.Householder.{kind};
 ghost use Rattle.tridiagonal.specs.Outcome.{refused_in, unless_refused};
@@ -13,7 +13,7 @@ use scalar::{Arithmetic, RealScalar, Scalar};
 
 // The entry of the identity in row i and column j.
 fn unit_entry<T: Scalar>(i: usize, j: usize) -> T
-    ensures { result ≡ (if nat_eq i j then T.ops.one else T.ops.zero) }
+    ensures { result ≡ (if i == j then T.ops.one else T.ops.zero) }
 {
     if i == j { T::one() } else { T::zero() }
 }
@@ -79,9 +79,9 @@ pub fn assemble<T: Scalar>(
     q: &mut [T],
 ) -> Result<(), Fault>
     ensures answer { refused_in result ≡ assemble_refusal reduction.now.side table.now signs.now q.old }
-    ensures q { q.new ≡ unless_refused (assemble_refusal reduction.now.side table.now signs.now q.old) q.old
-        (matrix_q (kind T.ops T.Real.ops T.Real.real) reduction.now.side
-        (lower reduction.now.side 0 reduction.now.side table.now) signs.now) }
+    ensures q { let n = reduction.now.side in
+        q.new ≡ unless_refused (assemble_refusal n table.now signs.now q.old) q.old
+        (matrix_q (kind T.ops T.Real.ops T.Real.real) n (lower n 0 n table.now) signs.now) }
 {
     let n = reduction.side();
     if [table.len(), signs.len(), q.len()] != [n * n, n - 1, n * n] {

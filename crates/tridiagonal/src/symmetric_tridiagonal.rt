@@ -9,7 +9,7 @@ ghost use Rattle.tridiagonal.specs.Runs.{buffers, call, ReduceRun, OnlyLower};
 ghost use Rattle.tridiagonal.specs.Tables.{lower, put};
 ghost use Rattle.tridiagonal.specs.Tridiagonal.{diagonal, updated, stepped_column, stepped_rest, reduced_columns, reduced_norms};
 
-use crate::blas::{column, dotc, hegemv, hegerc, unscale};
+use crate::blas::{dotc, hegemv, hegerc, unscale};
 use crate::checks::check;
 use crate::householder::reflection_axis_mut;
 use crate::reduction::Reduction;
@@ -35,7 +35,7 @@ fn update<T: Scalar>(t: &mut [T], n: usize, k: usize, axis: &[T], p: &mut [T])
     hegerc(t, n, k, dot.mul(two), axis, axis);
 }
 
-// That, where there is a reflection.
+// That, where there is a reflection: a function of its own, so that the test is proved alone.
 fn update_where<T: Scalar>(reflects: bool, t: &mut [T], n: usize, k: usize, axis: &[T], p: &mut [T])
     requires some { k < n }
     requires held { length t.old ≡ (n - k) * n }
@@ -58,12 +58,10 @@ fn step<T: Scalar>(t: &mut [T], n: usize, i: usize, axis: &mut [T], p: &mut [T])
     requires wide { n ≤ length t.old }
     requires as_axis { length axis.old ≡ n - (i + 1) }
     requires as_p { length p.old ≡ n - (i + 1) }
-    ensures norm { result ≡ axis_norm (kind T.ops T.Real.ops T.Real.real)
-        (drop 1 (take (n - i) (drop i t.old))) }
-    ensures table { t.new ≡ put n i (n - i)
-        (stepped_column (kind T.ops T.Real.ops T.Real.real) (take (n - i) (drop i t.old)) ∷
-        stepped_rest (kind T.ops T.Real.ops T.Real.real) (take (n - i) (drop i t.old))
-        (lower n (i + 1) (n - i - 1) (drop n t.old))) t.old }
+    ensures norm { result ≡ axis_norm (kind T.ops T.Real.ops T.Real.real) (drop 1 (take (n - i) (drop i t.old))) }
+    ensures table { let K = kind T.ops T.Real.ops T.Real.real in let c = take (n - i) (drop i t.old) in
+        t.new ≡ put n i (n - i)
+        (stepped_column K c ∷ stepped_rest K c (lower n (i + 1) (n - i - 1) (drop n t.old))) t.old }
 {
     let report = reflection_axis_mut(&mut t[i + 1..n]);
     axis.copy_from_slice(&t[i + 1..n]);
@@ -84,15 +82,15 @@ fn reduce_columns<T: Scalar>(n: usize, table: &mut [T], signs: &mut [T], scratch
         reduced_norms (kind T.ops T.Real.ops T.Real.real) (n - 1)
         (lower n 0 n table.old) }
 {
+    // By an index: a step lends what is left of all three slices, and then its sign is written.
     for i in 0..n - 1 {
-        let norm = step(
+        signs[i] = step(
             &mut table[i * n..],
             n,
             i,
             &mut signs[i..],
             &mut scratch[i..],
         );
-        signs[i] = norm;
     }
 }
 
@@ -129,7 +127,7 @@ fn read_diagonal<T: Scalar>(n: usize, table: &[T], values: &mut [T::Real])
     ensures { values.new ≡ diagonal (kind T.ops T.Real.ops T.Real.real) (lower n 0 n table.now) }
 {
     for (i, value) in values.iter_mut().enumerate() {
-        *value = column(table, n, i, i)[0].real();
+        *value = table[i * n + i].real();
     }
 }
 
@@ -138,13 +136,14 @@ fn read_moduli<T: Scalar>(signs: &[T], offs: &mut [T::Real])
     requires { length offs.old ≡ length signs.now }
     ensures { offs.new ≡ map T.ops.modulus signs.now }
 {
-    // Not a zip with the signs: a proof knows nothing of what is written through one.
+    // Not zipped: of what a zip of iter_mut writes a proof knows the length alone (at `returns`).
     for (i, off) in offs.iter_mut().enumerate() {
         *off = signs[i].modulus();
     }
 }
 
 // The reduction of a table that nothing is refused of.
+// No struct of the buffers: a method of one would promise besides, of each of five fields, that it keeps its reference.
 fn reduce_accepted<T: Scalar>(
     n: usize,
     table: &mut [T],

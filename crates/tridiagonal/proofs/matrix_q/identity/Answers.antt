@@ -1,9 +1,8 @@
-use Rattle.std.proofs.Common.{◌*◌, ◌<◌, ◌≤◌, length, drop, sym, ◌∙◌, arith}
-use Rattle.std.proofs.lemmas.List.{drop_all}
+use Rattle.std.proofs.Common.{◌*◌, ◌<◌, ◌≤◌, length, sym, ◌∙◌, arith}
+use Rattle.std.proofs.lemmas.List.{take_all}
 use Rattle.tridiagonal.specs.Assemble.{identity_from}
 use Rattle.tridiagonal.specs.Householder.{kind}
 use Rattle.tridiagonal.proofs.Assembled.{length_identity, identity_more}
-use Rattle.tridiagonal.proofs.Writes.{written}
 use Rattle.tridiagonal.proofs.matrix_q.identity.Goals as goal
 
 pub loop-k-preserved : goal.loop-k-preserved
@@ -12,12 +11,12 @@ loop-k-preserved g c =
     let within : c.loop-k.k < c.args.n * c.args.n = omega arith in
     let there : c.loop-k.k < length c.loop-k.q = omega arith in
     identity_more K c.args.n c.loop-k.k c.loop-k.q c.unit_entry.result c.requires.some within there c.unit_entry.ensures
-    ∙ c.loop-k.invariant
+    c.loop-k.invariant
 
 pub returns : goal.returns
 returns g c =
     let K = kind g.T.Arithmetic.ops g.T.Real.Arithmetic.ops g.T.Real.RealScalar.real in
-    let n = c.args.n in let I = identity_from K n 0 n in
+    let I = identity_from K c.args.n 0 c.args.n in
     let full : length c.loop-k.q ≤ c.loop-k.k = omega arith in
-    let all : length I ≤ c.loop-k.k = let long = length_identity K n 0 n in omega arith in
-    sym (written c.loop-k.q (drop c.loop-k.k I) c.loop-k.k full (drop_all c.loop-k.k I all)) ∙ c.loop-k.invariant
+    let all : length I ≤ c.loop-k.k = let long = length_identity K c.args.n 0 c.args.n in omega arith in
+    sym (take_all c.loop-k.k c.loop-k.q full) ∙ c.loop-k.invariant ∙ take_all c.loop-k.k I all
