@@ -3,13 +3,11 @@ use Rattle.std.specs.Prelude.{ℕ, zero, suc, List, [], ◌∷◌}
 use Rattle.scalar.specs.Ops.{Ops}
 use Rattle.rows.specs.declared.direction.Direction.{Direction}
 use Rattle.rows.specs.declared.direction.Direction.TheVariants.{Forward, Back}
+use Rattle.rows.specs.declared.turn.Turn as declared
 
--- the turn of the columns `column` and `column` + 1 by the cosine c and the sine s
-pub record Turn (R : Type 0) : Type 0 where
-  pub column : ℕ
-  pub c : R
-  pub s : R
-  pub direction : Direction
+-- the struct of src/, named here for other files
+abbrev pub Turn : Type 0 → Type 0
+Turn R = declared.Turn R
 
 abbrev pub turn_of : {R : Type 0} → ℕ → R → R → Direction → Turn R
 turn_of i c s d = record { column = i; c = c; s = s; direction = d }

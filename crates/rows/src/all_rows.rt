@@ -4,10 +4,10 @@ ghost use Rattle.rows.specs.Keepers.{answered};
 ghost use Rattle.rows.specs.Makes.{all_rows, all_rows_check, all_rows_fit};
 ghost use Rattle.rows.specs.Sounds.{all_rows_sound};
 
-use crate::columns::{entry, rotate, sine_of};
-use crate::direction::Direction;
+use crate::columns::{entry, rotate};
 use crate::keeper::Keeper;
 use crate::no_rows::width_fits;
+use crate::turn::Turn;
 use fault::Fault;
 use scalar::{Arithmetic, Scalar};
 
@@ -88,19 +88,13 @@ impl<'a, T: Scalar> Keeper<T> for AllRows<'a, T> {
         Err(Fault::Column)
     }
 
-    fn turn(
-        &mut self,
-        column: usize,
-        c: T::Real,
-        s: T::Real,
-        direction: Direction,
-    ) -> Result<(), Fault> {
+    fn turn(&mut self, turn: &Turn<T::Real>) -> Result<(), Fault> {
         let width = self.width;
         let count = self.count;
         let length = self.cells.len();
         if fits(width, count, length) {
-            if column < width && column + 1 < width {
-                rotate(self.cells, width, count, column, c, sine_of(direction, s));
+            if turn.column < width && turn.column + 1 < width {
+                rotate(self.cells, width, count, turn);
                 return Ok(());
             }
         }

@@ -1,12 +1,11 @@
 // A keeper of any two keepers: the first's rows, then the second's.
 ghost use Rattle.std.specs.Prelude.{◌≡◌, ◌+◌, length};
-ghost use Rattle.rows.specs.Turns.{turn_of};
 ghost use Rattle.rows.specs.Keepers.{answered, kept_turned, turn_answer};
 ghost use Rattle.rows.specs.Makes.{both, both_check, both_fit, either_cell};
 ghost use Rattle.rows.specs.Sounds.{both_sound};
 
-use crate::direction::Direction;
 use crate::keeper::Keeper;
+use crate::turn::Turn;
 use fault::Fault;
 use scalar::{Arithmetic, Scalar};
 
@@ -50,22 +49,17 @@ fn read_either<T: Scalar, A: Keeper<T>, B: Keeper<T>>(
 fn turn_each<T: Scalar, A: Keeper<T>, B: Keeper<T>>(
     first: &mut A,
     second: &mut B,
-    column: usize,
-    c: T::Real,
-    s: T::Real,
-    direction: Direction,
+    turn: &Turn<T::Real>,
 ) -> Result<(), Fault>
     requires { (A.Keeper.kept first.old).width ≡ (B.Keeper.kept second.old).width }
-    ensures answer { answered result ≡ turn_answer (A.Keeper.kept first.old) column }
+    ensures answer { answered result ≡ turn_answer (A.Keeper.kept first.old) turn.now.column }
     ensures first { A.Keeper.kept first.new ≡
-        kept_turned T.Arithmetic.ops (turn_of column c s direction) (A.Keeper.kept first.old) }
+        kept_turned T.Arithmetic.ops turn.now (A.Keeper.kept first.old) }
     ensures second { B.Keeper.kept second.new ≡
-        kept_turned T.Arithmetic.ops (turn_of column c s direction) (B.Keeper.kept second.old) }
+        kept_turned T.Arithmetic.ops turn.now (B.Keeper.kept second.old) }
 {
-    match first.turn(column, c, s, direction) {
-        Ok(_) => second.turn(column, c, s, direction),
-        Err(fault) => Err(fault),
-    }
+    first.turn(turn)?;
+    second.turn(turn)
 }
 
 impl<A, B> Both<A, B> {
@@ -138,15 +132,9 @@ impl<T: Scalar, A: Keeper<T>, B: Keeper<T>> Keeper<T> for Both<A, B> {
         }
     }
 
-    fn turn(
-        &mut self,
-        column: usize,
-        c: T::Real,
-        s: T::Real,
-        direction: Direction,
-    ) -> Result<(), Fault> {
+    fn turn(&mut self, turn: &Turn<T::Real>) -> Result<(), Fault> {
         if fit(&self.first, &self.second) {
-            turn_each(&mut self.first, &mut self.second, column, c, s, direction)
+            turn_each(&mut self.first, &mut self.second, turn)
         } else {
             Err(Fault::Column)
         }

@@ -6,6 +6,7 @@ ghost use Rattle.rows.specs.Keepers.{answered, given};
 use crate::all_rows::AllRows;
 use crate::direction::Direction;
 use crate::keeper::Keeper;
+use crate::turn::Turn;
 use fault::Fault;
 
 // The row (1, 0) turned forward with c 0 and s 1: (0, −1).
@@ -14,7 +15,12 @@ pub fn quarter_turn() -> Result<(f64, f64), Fault>
 {
     let mut cells = [1.0, 0.0];
     let mut keeper = AllRows::new(2, 1, &mut cells);
-    keeper.turn(0, 0.0, 1.0, Direction::Forward)?;
+    keeper.turn(&Turn {
+        column: 0,
+        c: 0.0,
+        s: 1.0,
+        direction: Direction::Forward,
+    })?;
     let a = keeper.read(0, 0)?;
     let b = keeper.read(0, 1)?;
     Ok((a, b))

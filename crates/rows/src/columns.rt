@@ -1,9 +1,9 @@
 // Rows that stand in a slice column by column: the entry of row r and column i at r + i * count.
 ghost use Rattle.std.specs.Prelude.{◌≡◌, ◌+◌, ◌*◌, ◌<◌, true, map, length, slice_index_or};
 ghost use Rattle.rows.specs.Makes.{all_rows_fit, entries_turned, rows_of};
-ghost use Rattle.rows.specs.Turns.{sine, turn_at};
+ghost use Rattle.rows.specs.Turns.{turned};
 
-use crate::direction::Direction;
+use crate::turn::{Turn, sine_of};
 use scalar::{Arithmetic, Scalar};
 
 pub(crate) fn entry<T: Scalar>(cells: &[T], count: usize, row: usize, column: usize) -> T
@@ -11,17 +11,6 @@ pub(crate) fn entry<T: Scalar>(cells: &[T], count: usize, row: usize, column: us
     ensures { result ≡ slice_index_or cells.now (row + column * count) T.Arithmetic.ops.zero }
 {
     cells[row + column * count]
-}
-
-// The embedded sine, or its negative when the direction is back.
-pub(crate) fn sine_of<T: Scalar>(direction: Direction, s: T::Real) -> T
-    ensures { result ≡ sine T.Arithmetic.ops direction s }
-{
-    let t = T::from_real(s);
-    match direction {
-        Direction::Forward => t,
-        Direction::Back => t.neg(),
-    }
 }
 
 // Turns the entries at two places: t·b joins a scaled, and u·a joins b scaled, both of the old a and b.
@@ -36,24 +25,18 @@ fn turn_entries<T: Scalar>(cells: &mut [T], x: usize, y: usize, c: T::Real, t: T
     cells[y] = u.mul(a).add(b.scale(c));
 }
 
-// Turns the columns `column` and `column` + 1 of every row: one pass over two columns side by side.
-pub(crate) fn rotate<T: Scalar>(
-    cells: &mut [T],
-    width: usize,
-    count: usize,
-    column: usize,
-    c: T::Real,
-    t: T,
-)
+// Turns two columns of every row: one pass over two columns side by side.
+pub(crate) fn rotate<T: Scalar>(cells: &mut [T], width: usize, count: usize, turn: &Turn<T::Real>)
     requires fit { all_rows_fit width count (length cells.old) ≡ true }
-    requires inside { column + 1 < width }
+    requires inside { turn.now.column + 1 < width }
     ensures { rows_of T.Arithmetic.ops.zero width count cells.new ≡
-        map (turn_at T.Arithmetic.ops c t column) (rows_of T.Arithmetic.ops.zero width count cells.old) }
+        map (turned T.Arithmetic.ops turn.now) (rows_of T.Arithmetic.ops.zero width count cells.old) }
 {
+    let t: T = sine_of(turn);
     let u = t.conjugate().neg();
-    let x = column * count;
+    let x = turn.column * count;
     let y = x + count;
     for r in 0..count {
-        turn_entries(cells, x + r, y + r, c, t, u);
+        turn_entries(cells, x + r, y + r, turn.c, t, u);
     }
 }

@@ -1,9 +1,8 @@
 // The trait of row keepers: whoever holds rows of a width, and turns them.
 ghost use Rattle.std.specs.Prelude.{◌≡◌, length};
-ghost use Rattle.rows.specs.Turns.{turn_of};
 ghost use Rattle.rows.specs.Keepers.{Kept, Sound, answered, cell_at, kept_turned, turn_answer};
 
-use crate::direction::Direction;
+use crate::turn::Turn;
 use fault::Fault;
 use scalar::Scalar;
 
@@ -21,15 +20,8 @@ pub trait Keeper<T: Scalar> {
     fn read(&self, row: usize, column: usize) -> Result<T, Fault>
         ensures answer { answered result ≡ cell_at (kept self.now).rows row column };
 
-    // The columns `column` and `column` + 1 of every row.
-    fn turn(
-        &mut self,
-        column: usize,
-        c: T::Real,
-        s: T::Real,
-        direction: Direction,
-    ) -> Result<(), Fault>
-        ensures answer { answered result ≡ turn_answer (kept self.old) column }
-        ensures rows { kept self.new ≡
-            kept_turned T.Arithmetic.ops (turn_of column c s direction) (kept self.old) };
+    // Turns two columns of every row.
+    fn turn(&mut self, turn: &Turn<T::Real>) -> Result<(), Fault>
+        ensures answer { answered result ≡ turn_answer (kept self.old) turn.now.column }
+        ensures rows { kept self.new ≡ kept_turned T.Arithmetic.ops turn.now (kept self.old) };
 }

@@ -8,6 +8,7 @@ mod columns;
 mod direction;
 mod keeper;
 mod no_rows;
+mod turn;
 
 pub use all_rows::AllRows;
 pub use both::Both;
@@ -15,3 +16,4 @@ pub use cases::quarter_turn;
 pub use direction::Direction;
 pub use keeper::Keeper;
 pub use no_rows::NoRows;
+pub use turn::Turn;

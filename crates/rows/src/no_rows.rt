@@ -4,8 +4,8 @@ ghost use Rattle.std.proofs.Common.{lit≤};
 ghost use Rattle.rows.specs.Keepers.{answered};
 ghost use Rattle.rows.specs.Makes.{no_rows_check, no_rows_width, width_fits};
 
-use crate::direction::Direction;
 use crate::keeper::Keeper;
+use crate::turn::Turn;
 use fault::Fault;
 use scalar::Scalar;
 
@@ -59,15 +59,9 @@ impl<T: Scalar> Keeper<T> for NoRows {
         Err(Fault::Column)
     }
 
-    fn turn(
-        &mut self,
-        column: usize,
-        _c: T::Real,
-        _s: T::Real,
-        _direction: Direction,
-    ) -> Result<(), Fault> {
+    fn turn(&mut self, turn: &Turn<T::Real>) -> Result<(), Fault> {
         let width = self.width;
-        if column < width && column + 1 < width {
+        if turn.column < width && turn.column + 1 < width {
             Ok(())
         } else {
             Err(Fault::Column)

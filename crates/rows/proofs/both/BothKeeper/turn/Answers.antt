@@ -1,7 +1,6 @@
 use Rattle.std.proofs.Common.{sym, ap, ◌∙◌}
 use Rattle.rows.specs.Keepers.{Kept, kept_turned}
 use Rattle.rows.specs.Makes.{both}
-use Rattle.rows.specs.Turns.{turn_of}
 use Rattle.rows.proofs.Held.{both_width, both_answer, both_turned}
 use Rattle.rows.proofs.both.BothKeeper.turn.Goals as goal
 
@@ -16,9 +15,9 @@ returns-then-fit g c =
     let b = g.B.Keeper.kept c.args.self.now.second in
     let fit = sym c.if-fit.ensures in
     let o = g.T.Arithmetic.ops in
-    let t = turn_of c.args.column c.args.c c.args.s c.args.direction in
+    let t = c.args.turn.now in
     record {
-      answer = c.turn_each.ensures.answer ∙ both_answer a b c.args.column fit;
+      answer = c.turn_each.ensures.answer ∙ both_answer a b t.column fit;
       rows = ap (λ (k : Kept g.row.T.Denot). both k (g.B.Keeper.kept c.turn_each.new.second)) c.turn_each.ensures.first
           ∙ ap (both (kept_turned o t a)) c.turn_each.ensures.second
           ∙ both_turned o t a b fit;
