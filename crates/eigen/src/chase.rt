@@ -10,7 +10,7 @@ ghost use Rattle.eigen.specs.Chases.{step_values, step_offs, first_bulge, chased
 use crate::cells::{entry, put};
 use crate::eigenvalues::{Vector2, wilkinson_shift};
 use crate::givens::{Normed, Rotation, cancel_y};
-use rows::{Direction, Keeper};
+use rows::{Direction, Keeper, Turn};
 use scalar::{RealScalar, Scalar};
 
 // The symmetric block (mii mij)(mij mjj).
@@ -141,7 +141,12 @@ fn turn_back<T: Scalar, K: Keeper<T>>(keeper: &mut K, i: usize, rotation: Rotati
     ensures rows { K.Keeper.kept keeper.new ≡
         kept_turned T.Arithmetic.ops (turn_of i rotation.c rotation.s Back) (K.Keeper.kept keeper.old) }
 {
-    let _ = keeper.turn(i, rotation.c, rotation.s, Direction::Back);
+    let _ = keeper.turn(&Turn {
+        column: i,
+        c: rotation.c,
+        s: rotation.s,
+        direction: Direction::Back,
+    });
 }
 
 // The chase of the block from `start` to `end`, with one back turn of the keeper's rows for each rotation.

@@ -9,7 +9,7 @@ use crate::chase::chase;
 use crate::delimit::{Block, bound_at};
 use crate::eigenvalues::{Vector2, compute_2x2_eigvals};
 use crate::givens::try_new;
-use rows::{Direction, Keeper};
+use rows::{Direction, Keeper, Turn};
 use scalar::{RealScalar, Scalar};
 
 fn is_within<R: RealScalar>(values: &[R], offs: &[R], m: usize, tolerance: R) -> bool
@@ -67,12 +67,12 @@ fn turn_to<T: Scalar, K: Keeper<T>>(
     match try_new(basis.x, basis.y, tolerance) {
         None => {}
         Some(found) => {
-            let _ = keeper.turn(
-                start,
-                found.rotation.c,
-                found.rotation.s,
-                Direction::Forward,
-            );
+            let _ = keeper.turn(&Turn {
+                column: start,
+                c: found.rotation.c,
+                s: found.rotation.s,
+                direction: Direction::Forward,
+            });
         }
     }
 }
