@@ -10,7 +10,7 @@ use Rattle.eigen.specs.Turnings.{kept_all}
 use Rattle.eigen.specs.Iterate.{settled, not_settled, iterate}
 use Rattle.eigen.specs.Runs.{Run, searched, pass_of, run_by, run_of}
 use Rattle.eigen.specs.Settles.{Task, allowed, unlawful, check_of, check_task, settle_by, settle_of}
-use Rattle.eigen.specs.Laws.{Start, Finish, finish_of, task_of, IsRun, AlikeButKeeper, Alike, Agree, Same}
+use Rattle.eigen.specs.Laws.{Start, Finish, finish_of, task_of, IsRun, Same, AnyKeeper, AnyLimit}
 use Rattle.eigen.proofs.Limits.{any_limit, counted}
 use Rattle.eigen.proofs.Turned.{turn_none}
 
@@ -30,9 +30,9 @@ module _ {C R : Type 0} (ops : Ops C R) (rops : Ops R R) (real : RealOps R) wher
       get_or (kept_all ops ts k).rows i [] ≡ turned_all ops ts (get_or k.rows i [])
   turned_row ts k i h = get_or-map (turned_all ops ts) k.rows i [] [] h
 
-  pub any_keeper : (s t : Start C R) (limit : ℕ) (f g : Finish C R) → IsRun ops rops real s limit f → AlikeButKeeper s t →
-      IsRun ops rops real t limit g → Agree s t f g
-  any_keeper s t limit f g r like q =
+  pub any_keeper : (s : Start C R) (limit : ℕ) (f : Finish C R) → IsRun ops rops real s limit f → AnyKeeper ops rops real s limit f
+  unfolding AnyKeeper
+  any_keeper s limit f r t g like q =
       let e : task_of s ≡ task_of t = same_task (task_of s) (task_of t) like.side like.largest like.values like.offs like.tolerance
       (like.first ∙ like.side ∙ sym like.second) in
       let run : settle_of rops real (task_of s) limit ≡ settle_of rops real (task_of t) limit = ap
@@ -122,9 +122,9 @@ module _ {C R : Type 0} (ops : Ops C R) (rops : Ops R R) (real : RealOps R) wher
   same_kept a b p q =
       ap (λ x. record { width = x; rows = a.rows }) p ∙ ap (λ x. record { width = b.width; rows = x }) q
 
-  pub limits : (s t : Start C R) (n m passes : ℕ) (f g : Finish C R) → IsRun ops rops real s n f → f.answer ≡ settled passes → Alike s t →
-      IsRun ops rops real t m g → (allowed m ≡ true → passes < m → Same f g) × (1 ≤ m → m ≤ passes → g.answer ≡ not_settled m)
-  limits s t n m passes f g r e like q =
+  pub limits : (s : Start C R) (n : ℕ) (f : Finish C R) → IsRun ops rops real s n f → AnyLimit ops rops real s f
+  unfolding AnyLimit
+  limits s n f r passes m t g e like q =
       let k : task_of s ≡ task_of t = same_task (task_of s) (task_of t) like.side like.largest like.values like.offs like.tolerance
       like.width in
       let kept : s.kept ≡ t.kept = same_kept s.kept t.kept like.width like.rows in
@@ -156,16 +156,22 @@ module _ {C R : Type 0} (ops : Ops C R) (rops : Ops R R) (real : RealOps R) wher
         ∙ ap (λ (a : Answer (Unit {0})). kept_all ops (settle_by rops real (task_of s) limit a).turns s.kept) e;
   }
 
-  pub begun_run : (s : Start C R) (limit : ℕ) (f : Finish C R) → given tt ≡ check_task rops real (task_of s) limit →
-      f.answer ≡ (run_of rops real s.tolerance limit s.side s.largest s.values s.offs).answer →
-      f.values ≡ (run_of rops real s.tolerance limit s.side s.largest s.values s.offs).values →
-      f.offs ≡ (run_of rops real s.tolerance limit s.side s.largest s.values s.offs).offs →
-      f.kept ≡ kept_all ops (run_of rops real s.tolerance limit s.side s.largest s.values s.offs).turns s.kept →
+  pub begun_run : (s : Start C R) (limit : ℕ) (largest : R) (f : Finish C R) → given tt ≡ check_task rops real (task_of s) limit →
+      length s.values ≡ s.side → largest ≡ s.largest →
+      f.answer ≡ (run_of rops real s.tolerance limit (length s.values) largest s.values s.offs).answer →
+      f.values ≡ (run_of rops real s.tolerance limit (length s.values) largest s.values s.offs).values →
+      f.offs ≡ (run_of rops real s.tolerance limit (length s.values) largest s.values s.offs).offs →
+      f.kept ≡ kept_all ops (run_of rops real s.tolerance limit (length s.values) largest s.values s.offs).turns s.kept →
       IsRun ops rops real s limit f
   unfolding settle_of
-  begun_run s limit f e a v o k = record {
-    answer = a ∙ ap (λ (a : Answer (Unit {0})). (settle_by rops real (task_of s) limit a).answer) e;
-    values = v ∙ ap (λ (a : Answer (Unit {0})). (settle_by rops real (task_of s) limit a).values) e;
-    offs = o ∙ ap (λ (a : Answer (Unit {0})). (settle_by rops real (task_of s) limit a).offs) e;
-    kept = k ∙ ap (λ (a : Answer (Unit {0})). kept_all ops (settle_by rops real (task_of s) limit a).turns s.kept) e;
-  }
+  begun_run s limit largest f e n l a v o k =
+      let whole : run_of rops real s.tolerance limit (length s.values) largest s.values s.offs ≡ settle_of rops real (task_of s) limit =
+      ap (λ (m : ℕ). run_of rops real s.tolerance limit m largest s.values s.offs) n
+      ∙ ap (λ (x : R). run_of rops real s.tolerance limit s.side x s.values s.offs) l
+      ∙ ap (settle_by rops real (task_of s) limit) e in
+      record {
+        answer = a ∙ ap (λ (x : Run R). x.answer) whole;
+        values = v ∙ ap (λ (x : Run R). x.values) whole;
+        offs = o ∙ ap (λ (x : Run R). x.offs) whole;
+        kept = k ∙ ap (λ (x : Run R). kept_all ops x.turns s.kept) whole;
+      }

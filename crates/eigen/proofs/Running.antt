@@ -82,12 +82,14 @@ module _ {C R : Type 0} (ops : Ops C R) (rops : Ops R R) (real : RealOps R) (tol
   ends_from count values offs block k = ended_by ops (iterate (pass_of rops real tolerance) (limit - count) count
       (standing_of values offs block)) k
 
-  pub ends_over : (count : ℕ) (values offs : List R) (block : Block) (k : Kept C) → limit ≤ count →
-      ends_from count values offs block k ≡ ended_of (not_settled count) values offs k
-  ends_over count values offs block k h =
+  pub ends_over : (count : ℕ) (values offs : List R) (block : Block) (k : Kept C) → count ≤ limit → limit ≤ count →
+      ends_from count values offs block k ≡ ended_of (not_settled limit) values offs k
+  ends_over count values offs block k least h =
+      let e : count ≡ limit = omega arith in
       ap (λ (r : Ran (Standing R) (Turn R)). ended_by ops r k)
       (iterate_over (pass_of rops real tolerance) limit count (standing_of values offs block) h)
       ∙ ap (ended_of (not_settled count) values offs) (turn_none ops k)
+      ∙ ap (λ (n : ℕ). ended_of (not_settled n) values offs k) e
 
   pub ends_single : (count : ℕ) (values offs : List R) (block : Block) (k : Kept C) → count < limit → block.start ≡ block.end →
       ends_from count values offs block k ≡ ended_of (settled count) values offs k
@@ -129,14 +131,15 @@ module _ {C R : Type 0} (ops : Ops C R) (rops : Ops R R) (real : RealOps R) (tol
       ended_same a v v' o o' k k' p q t = cc
 
   -- a pass and the search after it leave a run that gives the whole
-  pub ends_passed : (count next : ℕ) (values values' offs offs' offs'' : List R) (block block' : Block) (k k' : Kept C) → count < limit →
+  pub ends_passed : (count next : ℕ) (values values' values'' offs offs' offs'' : List R) (block block' : Block) (k k' : Kept C) → count < limit →
       (block.start ≡ block.end → ⊥) → Some next ≡ pass_end rops real tolerance block.start block.end values offs →
       values' ≡ (pass_left rops real tolerance block.start block.end values offs).values →
       offs' ≡ (pass_left rops real tolerance block.start block.end values offs).offs →
       k' ≡ kept_all ops (pass_left rops real tolerance block.start block.end values offs).turns k →
-      offs'' ≡ offs_from rops real tolerance values' offs' next → block' ≡ block_from rops real tolerance values' offs' next →
-      ends_from (count + 1) values' offs'' block' k' ≡ ends_from count values offs block k
-  ends_passed count next values values' offs offs' offs'' block block' k k' h ne e p q t u w =
+      values'' ≡ values' → offs'' ≡ offs_from rops real tolerance values' offs' next →
+      block' ≡ block_from rops real tolerance values' offs' next →
+      ends_from (count + 1) values'' offs'' block' k' ≡ ends_from count values offs block k
+  ends_passed count next values values' values'' offs offs' offs'' block block' k k' h ne e p q t x u w =
       let s = standing_of values offs block in
       let left = pass_left rops real tolerance block.start block.end values offs in
       let found : standing_of values' offs'' block' ≡ searched rops real tolerance left.values left.offs next =
@@ -145,23 +148,28 @@ module _ {C R : Type 0} (ops : Ops C R) (rops : Ops R R) (real : RealOps R) (tol
       passes values offs block ne ∙ ap (λ (o : Option ℕ). passed_to rops real tolerance o left) (sym e)
       ∙ ap (λ (s : Standing R). passed s left.turns) (sym found) in
       let rest = iterate (pass_of rops real tolerance) (limit - (count + 1)) (count + 1) (standing_of values' offs'' block') in
-      ap (λ (q : Kept C). ended_of rest.answer rest.left.values rest.left.offs (kept_all ops rest.made q)) t
+      ap (λ (v : List R). ends_from (count + 1) v offs'' block' k') x
+      ∙ ap (λ (q : Kept C). ended_of rest.answer rest.left.values rest.left.offs (kept_all ops rest.made q)) t
       ∙ ap (ended_of rest.answer rest.left.values rest.left.offs) (kept_then ops left.turns rest.made k)
       ∙ sym (ap (λ (r : Ran (Standing R) (Turn R)). ended_by ops r k)
       (iterate_step (pass_of rops real tolerance) limit count s (passed (standing_of values' offs'' block') left.turns) h is))
 
   -- the whole run, from its end
-  pub run_ends : (side : ℕ) (largest : R) (values offs offs₁ : List R) (block : Block) (k : Kept C) (e : Ended C R) →
-      offs₁ ≡ offs_from rops real tolerance values offs (side - 1) → block ≡ block_from rops real tolerance values offs (side - 1) →
-      (f : Ended C R) → f ≡ e → f ≡ ended_by ops (iterate (pass_of rops real tolerance) limit 0 (standing_of values offs₁ block)) k →
+  pub run_ends : (side end : ℕ) (largest : R) (values values₁ offs offs₁ : List R) (block : Block) (k : Kept C) (e : Ended C R) →
+      end ≡ side - 1 → values₁ ≡ values → offs₁ ≡ offs_from rops real tolerance values offs end →
+      block ≡ block_from rops real tolerance values offs end →
+      (f : Ended C R) → f ≡ e → f ≡ ended_by ops (iterate (pass_of rops real tolerance) limit 0 (standing_of values₁ offs₁ block)) k →
       (e.answer ≡ (run_of rops real tolerance limit side largest values offs).answer)
       × (values_at rops largest e.answer e.values ≡ (run_of rops real tolerance limit side largest values offs).values)
       × (e.offs ≡ (run_of rops real tolerance limit side largest values offs).offs)
       × (e.kept ≡ kept_all ops (run_of rops real tolerance limit side largest values offs).turns k)
-  run_ends side largest values offs offs₁ block k e u w f was is =
+  run_ends side end largest values values₁ offs offs₁ block k e n v u w f was is =
+      let found : standing_of values₁ offs₁ block ≡ searched rops real tolerance values offs (side - 1) =
+      ap (λ (x : List R). standing_of x offs₁ block) v
+      ∙ search_same rops real tolerance end values values offs offs offs₁ block refl refl u w
+      ∙ ap (searched rops real tolerance values offs) n in
       let whole : e ≡ ended_by ops (iterate (pass_of rops real tolerance) limit 0 (searched rops real tolerance values offs (side - 1))) k =
-      sym was ∙ is ∙ ap (λ (s : Standing R). ended_by ops (iterate (pass_of rops real tolerance) limit 0 s) k)
-      (search_same rops real tolerance (side - 1) values values offs offs offs₁ block refl refl u w) in (
+      sym was ∙ is ∙ ap (λ (s : Standing R). ended_by ops (iterate (pass_of rops real tolerance) limit 0 s) k) found in (
         ap (λ (e : Ended C R). e.answer) whole,
         ap (λ (e : Ended C R). values_at rops largest e.answer e.values) whole,
         ap (λ (e : Ended C R). e.offs) whole,

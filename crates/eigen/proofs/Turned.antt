@@ -138,12 +138,6 @@ forward_none {C} {R} ops start k o e =
     sym (turn_none ops k) ∙ ap (λ (o : Option (Normed R)). kept_all ops (forward start o) k) e
 
 pub pair_none : {C R : Type 0} (ops : Ops C R) (rops : Ops R R) (real : RealOps R) (tolerance : R) (start : ℕ) (values offs : List R)
-    (k : Kept C)
-    (o : Option (Vector2 R)) → None ≡ o →
-    (false ≡ exists o) × (values ≡ (pair_put rops real tolerance start values offs o).values)
-    × (k ≡ kept_all ops (pair_put rops real tolerance start values offs o).turns k)
-pair_none {C} {R} ops rops real tolerance start values offs k o e = (
-  ap exists e,
-  ap (λ (o : Option (Vector2 R)). (pair_put rops real tolerance start values offs o).values) e,
-  sym (turn_none ops k) ∙ ap (λ (o : Option (Vector2 R)). kept_all ops (pair_put rops real tolerance start values offs o).turns k) e,
-)
+    (k : Kept C) (o : Option (Vector2 R)) → None ≡ o → k ≡ kept_all ops (pair_put rops real tolerance start values offs o).turns k
+pair_none {C} {R} ops rops real tolerance start values offs k o e =
+    sym (turn_none ops k) ∙ ap (λ (o : Option (Vector2 R)). kept_all ops (pair_put rops real tolerance start values offs o).turns k) e

@@ -99,7 +99,7 @@ module _ {C R : Type 0} (ops : Ops C R) (rops : Ops R R) (real : RealOps R) wher
   -- Only the entries on and below the diagonal and the largest size decide. Two tables that are accepted, alike there and in largest size:
   -- values, off-diagonal entries, signs and Q come out the same, whatever the other buffers held, and runs that take what the two
   -- reductions left, at one tolerance and limit and with any two keepers of that side, agree.
-  abbrev pub AnyUpper : Start C R → ℕ → Finish C R → Type 0
+  unfoldable pub AnyUpper : Start C R → ℕ → Finish C R → Type 0
   AnyUpper s limit f = (n : ℕ) (l : R) (a b : Reducing C R) (t : Start C R) (g : Finish C R) →
       ReduceRun (kind ops rops real) a.side a.given a.answer a.left →
       ReduceRun (kind ops rops real) b.side b.given b.answer b.left →
@@ -108,11 +108,11 @@ module _ {C R : Type 0} (ops : Ops C R) (rops : Ops R R) (real : RealOps R) wher
 
   -- Whatever else a run starts from, the keeper has no say in its answer, nor in the values and off-diagonal entries that it leaves; and
   -- what becomes of a row is decided by that row alone.
-  abbrev pub AnyKeeper : Start C R → ℕ → Finish C R → Type 0
+  unfoldable pub AnyKeeper : Start C R → ℕ → Finish C R → Type 0
   AnyKeeper s limit f = (t : Start C R) (g : Finish C R) → AlikeButKeeper s t → IsRun ops rops real t limit g → Agree s t f g
 
   -- Of a run settled with so many passes: started alike at an allowed limit above them it comes to the same end, and at a limit from 1 to
   -- them it is not settled, with that limit as its count.
-  abbrev pub AnyLimit : Start C R → Finish C R → Type 0
+  unfoldable pub AnyLimit : Start C R → Finish C R → Type 0
   AnyLimit s f = (passes m : ℕ) (t : Start C R) (g : Finish C R) → f.answer ≡ settled passes → Alike s t → IsRun ops rops real t m g →
       (allowed m ≡ true → passes < m → Same f g) × (1 ≤ m → m ≤ passes → g.answer ≡ not_settled m)

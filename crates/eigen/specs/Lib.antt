@@ -1,6 +1,7 @@
 pub mod Givens
 pub mod Eigenvalues
 pub mod Blocks
+pub mod Forms
 pub mod Turnings
 pub mod Chases
 pub mod Passes

@@ -1,26 +1,9 @@
 -- Settling: what is refused before a run, and the run. Definitions only.
-use Rattle.std.specs.Prelude.{ℕ, ◌+◌, Bool, true, false, cond, not, ◌&&◌, ◌||◌, List, [], length, Ok, Err, Result, ◌==◌, nat_le}
+use Rattle.std.specs.Prelude.{ℕ, ◌+◌, Bool, true, false, cond, not, ◌&&◌, ◌||◌, List, [], length, ◌==◌, nat_le}
 use Rattle.scalar.specs.Ops.{Ops, RealOps}
-use Rattle.fault.specs.Refusals.{refused, refusal}
+use Rattle.fault.specs.Refusals.{refused}
 use Rattle.rows.specs.Keepers.{Answer, given, denied}
-use Rattle.eigen.specs.declared.settling.Stopped.{Stopped}
-use Rattle.eigen.specs.declared.settling.Stopped.TheVariants.{Refused, Ended}
 use Rattle.eigen.specs.Runs.{Run, run_of}
-
--- what a call answers: the passes, or the refusal; and whether the run had begun
-abbrev pub outcome : Result ℕ Stopped → Answer ℕ
-outcome (Ok passes) = given passes
-outcome (Err (Refused fault)) = denied (refusal fault)
-outcome (Err (Ended fault)) = denied (refusal fault)
-
-abbrev pub began : Result ℕ Stopped → Bool
-began (Ok passes) = true
-began (Err (Refused fault)) = false
-began (Err (Ended fault)) = true
-
-abbrev pub is_given : {A : Type 0} → Answer A → Bool
-is_given (given x) = true
-is_given (denied why) = false
 
 -- what a run is given but the limit and the keeper's rows
 pub record Task (R : Type 0) : Type 0 where

@@ -1,5 +1,5 @@
 -- What settling answers, and what it hands back. Definitions only.
-use Rattle.std.specs.Prelude.{ℕ, Bool, true, false, Some, None, Ok, Err, Option, Result}
+use Rattle.std.specs.Prelude.{ℕ, Some, None, Ok, Err, Option, Result}
 use Rattle.fault.specs.Refusals.{refusal}
 use Rattle.fault.specs.declared.Fault.{Fault}
 use Rattle.rows.specs.Keepers.{Answer, given, denied}
@@ -21,12 +21,7 @@ handed_back (Ok passes) = None
 handed_back (Err (Refused fault reduction)) = Some (reduction.side, reduction.largest)
 handed_back (Err (Ended fault)) = None
 
--- it is where no run began
-abbrev pub unless_begun : {R : Type 0} → Bool → ℕ → R → Option (ℕ × R)
-unless_begun true side largest = None
-unless_begun false side largest = Some (side, largest)
-
--- and that is where the checks refuse
+-- it is where the checks refuse
 abbrev pub back_from : {A R : Type 0} → Answer A → ℕ → R → Option (ℕ × R)
 back_from (given x) side largest = None
 back_from (denied why) side largest = Some (side, largest)

@@ -1,6 +1,6 @@
 // Construction of Givens rotations of real numbers.
 ghost use Rattle.std.specs.Prelude.{◌≡◌};
-ghost use Rattle.eigen.specs.Givens.{cancel_y, try_new};
+ghost use Rattle.eigen.specs.Givens.{cancel_y, normed_of, try_new};
 
 use scalar::RealScalar;
 
@@ -25,23 +25,30 @@ fn length<R: RealScalar>(modulus: R, y: R) -> R
     modulus.mul(modulus).add(y.mul(y)).sqrt()
 }
 
+// The rotation of cosine as `modulus` and sine as `sine`, both divided by the length, and the length with the sign.
+fn normed_by<R: RealScalar>(modulus: R, sine: R, length: R, sign: R) -> Normed<R>
+    ensures { result ≡ normed_of (R.RealScalar.real.div modulus length)
+        (R.RealScalar.real.div sine (R.Arithmetic.ops.scale sign length)) (R.Arithmetic.ops.scale sign length) }
+{
+    let norm = sign.scale(length);
+    Normed {
+        rotation: Rotation {
+            c: modulus.div(length),
+            s: sine.div(norm),
+        },
+        norm,
+    }
+}
+
 // The rotation that makes the second of (x, y) zero, or none where it is zero.
 pub(crate) fn cancel_y<R: RealScalar>(x: R, y: R) -> Option<Normed<R>>
     ensures rotation { result ≡ cancel_y R.Arithmetic.ops R.RealScalar.real x y }
 {
     if y.is_zero() {
-        None
-    } else {
-        let (modulus, sign) = x.split_sign();
-        let denominator = length(modulus, y);
-        let c = modulus.div(denominator);
-        let s = y.neg().div(sign.scale(denominator));
-        let norm = sign.scale(denominator);
-        Some(Normed {
-            rotation: Rotation { c, s },
-            norm,
-        })
+        return None;
     }
+    let (modulus, sign) = x.split_sign();
+    Some(normed_by(modulus, y.neg(), length(modulus, y), sign))
 }
 
 // The rotation of cosine and sine as x and y, or none where their length is not above the tolerance.
@@ -49,15 +56,9 @@ pub(crate) fn try_new<R: RealScalar>(x: R, y: R, tolerance: R) -> Option<Normed<
     ensures rotation { result ≡ try_new R.Arithmetic.ops R.RealScalar.real x y tolerance }
 {
     let (modulus, sign) = x.split_sign();
-    let denominator = length(modulus, y);
-    if tolerance.lt(denominator) {
-        let norm = sign.scale(denominator);
-        let c = modulus.div(denominator);
-        let s = y.div(norm);
-        Some(Normed {
-            rotation: Rotation { c, s },
-            norm,
-        })
+    let length = length(modulus, y);
+    if tolerance.lt(length) {
+        Some(normed_by(modulus, y, length, sign))
     } else {
         None
     }

@@ -2,12 +2,12 @@
 #![tactic(auto)]
 
 mod calls;
-mod cells;
 mod chase;
 mod delimit;
 mod eigenvalues;
 mod ends;
 mod faults;
+mod form;
 mod givens;
 mod passes;
 mod settling;

@@ -1,41 +1,42 @@
-use Rattle.std.proofs.Common.{◌<◌, sym, ap, ◌∙◌, arith}
+use Rattle.std.proofs.Common.{◌<◌, sym, ap, ◌∙◌, arith, rules}
 use Rattle.rows.specs.Turns.{turn_of}
 use Rattle.rows.specs.declared.direction.Direction.TheVariants.{Back}
-use Rattle.eigen.proofs.Turned
-use Rattle.eigen.proofs.Turned.{chase_done, chase_whole, chase_left, chase_over, turned_width}
+use Rattle.eigen.proofs.Turned.{chase_again, chase_done, chase_whole, chase_left, chase_over, turned_width}
 use Rattle.eigen.proofs.chase.chase.Goals as goal
 
 pub chase-preserved : goal.chase-preserved
 chase-preserved g c =
     let k = g.K.Keeper.kept c.chase.keeper in
-    let wide : c.args.end < k.width = omega (arith, c.chase.invariant.1) in (
-      Turned.chase_again g.T.Arithmetic.ops g.T.Real.Arithmetic.ops g.T.Real.RealScalar.real c.args.start c.args.end
-          c.chase.i c.in-Some.found c.chase.bulge _ c.chase.values _ c.chase.offs _ k _ (omega arith) wide
+    let wide : c.args.block.end < k.width = omega (arith, c.chase.invariant.width) in
+    record {
+      whole = chase_again g.T.Arithmetic.ops g.T.Real.Arithmetic.ops g.T.Real.RealScalar.real c.args.block.start c.args.block.end
+          c.chase.i c.in-Some.found c.chase.bulge _ c.chase.form.values.now _ c.chase.form.offs.now _ k _ (omega arith) wide
           c.in-Some.ensures.rotation c.step-bulge.ensures.bulge c.step-bulge.ensures.values
           c.step-bulge.ensures.offs c.turn_back.ensures.rows
-          ∙ c.chase.invariant.0,
-      turned_width g.T.Arithmetic.ops (turn_of c.chase.i c.in-Some.found.rotation.c c.in-Some.found.rotation.s Back) k _
-          (g.K.Keeper.kept c.args.keeper.now) c.turn_back.ensures.rows c.chase.invariant.1,
-    )
+          ∙ c.chase.invariant.whole;
+      width = turned_width g.T.Arithmetic.ops (turn_of c.chase.i c.in-Some.found.rotation.c c.in-Some.found.rotation.s Back) k _
+          (g.K.Keeper.kept c.args.keeper.now) c.turn_back.ensures.rows c.chase.invariant.width;
+      same = search rules;
+    }
 
 pub returns-after-chase : goal.returns-after-chase
 returns-after-chase g c =
-    let done = chase_done g.T.Arithmetic.ops g.T.Real.Arithmetic.ops g.T.Real.RealScalar.real c.args.start c.args.end
-    c.chase.values c.chase.offs (g.K.Keeper.kept c.chase.keeper) _
-    (chase_over g.T.Real.Arithmetic.ops g.T.Real.RealScalar.real c.args.start c.args.end c.chase.i c.chase.bulge
-    c.chase.values c.chase.offs (omega arith)) in
-    let whole = chase_whole g.T.Arithmetic.ops g.T.Real.Arithmetic.ops g.T.Real.RealScalar.real c.args.start c.args.end
-    c.first_bulge-bulge.result c.args.values.now c.args.offs.now (g.K.Keeper.kept c.args.keeper.now) _
-    c.first_bulge-bulge.ensures.bulge (sym done ∙ c.chase.invariant.0) in
-    record { values = ap (λ l. l.values) whole; offs = ap (λ l. l.offs) whole; rows = ap (λ l. l.kept) whole }
+    let done = chase_done g.T.Arithmetic.ops g.T.Real.Arithmetic.ops g.T.Real.RealScalar.real c.args.block.start c.args.block.end
+    c.chase.form.values.now c.chase.form.offs.now (g.K.Keeper.kept c.chase.keeper) _
+    (chase_over g.T.Real.Arithmetic.ops g.T.Real.RealScalar.real c.args.block.start c.args.block.end c.chase.i c.chase.bulge
+    c.chase.form.values.now c.chase.form.offs.now (omega arith)) in
+    let whole = chase_whole g.T.Arithmetic.ops g.T.Real.Arithmetic.ops g.T.Real.RealScalar.real c.args.block.start c.args.block.end
+    c.first_bulge-bulge.result c.args.form.now.values.now c.args.form.now.offs.now (g.K.Keeper.kept c.args.keeper.now) _
+    c.first_bulge-bulge.ensures.bulge (sym done ∙ c.chase.invariant.whole) in
+    record { values = ap (λ l. l.values) whole; offs = ap (λ l. l.offs) whole; same = c.chase.invariant.same; rows = ap (λ l. l.kept) whole }
 
 pub returns-in-None : goal.returns-in-None
 returns-in-None g c =
-    let done = chase_done g.T.Arithmetic.ops g.T.Real.Arithmetic.ops g.T.Real.RealScalar.real c.args.start c.args.end
-    c.chase.values c.chase.offs (g.K.Keeper.kept c.chase.keeper) _
-    (chase_left g.T.Real.Arithmetic.ops g.T.Real.RealScalar.real c.args.start c.args.end _ c.chase.i c.chase.bulge
-    c.chase.values c.chase.offs c.in-None.ensures.rotation) in
-    let whole = chase_whole g.T.Arithmetic.ops g.T.Real.Arithmetic.ops g.T.Real.RealScalar.real c.args.start c.args.end
-    c.first_bulge-bulge.result c.args.values.now c.args.offs.now (g.K.Keeper.kept c.args.keeper.now) _
-    c.first_bulge-bulge.ensures.bulge (sym done ∙ c.chase.invariant.0) in
-    record { values = ap (λ l. l.values) whole; offs = ap (λ l. l.offs) whole; rows = ap (λ l. l.kept) whole }
+    let done = chase_done g.T.Arithmetic.ops g.T.Real.Arithmetic.ops g.T.Real.RealScalar.real c.args.block.start c.args.block.end
+    c.chase.form.values.now c.chase.form.offs.now (g.K.Keeper.kept c.chase.keeper) _
+    (chase_left g.T.Real.Arithmetic.ops g.T.Real.RealScalar.real c.args.block.start c.args.block.end _ c.chase.i c.chase.bulge
+    c.chase.form.values.now c.chase.form.offs.now c.in-None.ensures.rotation) in
+    let whole = chase_whole g.T.Arithmetic.ops g.T.Real.Arithmetic.ops g.T.Real.RealScalar.real c.args.block.start c.args.block.end
+    c.first_bulge-bulge.result c.args.form.now.values.now c.args.form.now.offs.now (g.K.Keeper.kept c.args.keeper.now) _
+    c.first_bulge-bulge.ensures.bulge (sym done ∙ c.chase.invariant.whole) in
+    record { values = ap (λ l. l.values) whole; offs = ap (λ l. l.offs) whole; same = c.chase.invariant.same; rows = ap (λ l. l.kept) whole }

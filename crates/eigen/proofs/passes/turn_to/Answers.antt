@@ -1,8 +1,9 @@
+use Rattle.std.proofs.Common.{sym, ◌∙◌}
 use Rattle.eigen.proofs.Turned.{forward_none}
 use Rattle.eigen.proofs.passes.turn_to.Goals as goal
 
-pub returns-in-None : goal.returns-in-None
-returns-in-None g c = record {
+pub returns-in_default : goal.returns-in_default
+returns-in_default g c = record {
   rows = forward_none g.T.Arithmetic.ops c.args.start (g.K.Keeper.kept c.args.keeper.now) _
-      c.in-None.ensures.rotation;
+      (sym c.in_default.is ∙ c.try_new.ensures.rotation);
 }

@@ -1,69 +1,96 @@
-use Rattle.std.proofs.Common.{◌≤◌, ap, ◌∙◌, arith}
+use Rattle.std.proofs.Common.{◌≡◌, ◌≤◌, length, None, Some, Err, sym, ap, ◌∙◌, arith, rules}
+use Rattle.std.proofs.lemmas.Result.{err_from_is_err_and}
+use Rattle.std.specs.Option.{ok_or}
+use Rattle.std.specs.Result.{result_ok}
+use Rattle.fault.specs.declared.Fault.TheVariants.{Pair}
+use Rattle.rows.specs.Keepers.{answered}
 use Rattle.eigen.specs.Iterate.{settled, not_settled, no_pair}
+use Rattle.eigen.specs.Passes.{pass_end}
 use Rattle.eigen.proofs.Running.{ended_of, ends_over, ends_single, ends_broken, ends_passed, run_ends, pass_falls}
 use Rattle.eigen.proofs.symmetric_eigen.run.Goals as goal
 
 pub returns-then-block : goal.returns-then-block
 returns-then-block g c =
-    let end = run_ends g.T.Arithmetic.ops g.T.Real.Arithmetic.ops g.T.Real.RealScalar.real c.args.tolerance c.args.limit
-    c.args.side c.args.largest c.args.values.now c.args.offs.now c.delimit_subproblem-block.new.offs
+    let o = g.T.Arithmetic.ops in
+    let p = g.T.Real.Arithmetic.ops in
+    let q = g.T.Real.RealScalar.real in
+    let form = c.args.form.now in
+    let end = run_ends o p q c.args.tolerance c.args.limit (length form.values.now) (length form.offs.now) c.args.largest
+    form.values.now c.delimit_subproblem-block.new.self.values.now form.offs.now c.delimit_subproblem-block.new.self.offs.now
     c.delimit_subproblem-block.result (g.K.Keeper.kept c.args.keeper.now)
-    (ended_of (settled c.passes.count) c.passes.values c.passes.offs (g.K.Keeper.kept c.passes.keeper))
-    c.delimit_subproblem-block.ensures.offs c.delimit_subproblem-block.ensures.block _
-    (ends_single g.T.Arithmetic.ops g.T.Real.Arithmetic.ops g.T.Real.RealScalar.real c.args.tolerance c.args.limit
-    c.passes.count c.passes.values c.passes.offs c.passes.block (g.K.Keeper.kept c.passes.keeper)
-    c.passes-test.true c.if-block.true)
-    c.passes.invariant.0 in
-    record { answer = end.0; values = c.scale_values.ensures.values ∙ end.1; offs = end.2; rows = end.3 }
+    (ended_of (settled c.passes.count) c.passes.form.values.now c.passes.form.offs.now (g.K.Keeper.kept c.passes.keeper))
+    (omega (arith, form.lengths)) c.delimit_subproblem-block.ensures.values c.delimit_subproblem-block.ensures.offs
+    c.delimit_subproblem-block.ensures.block _
+    (ends_single o p q c.args.tolerance c.args.limit c.passes.count c.passes.form.values.now c.passes.form.offs.now c.passes.block
+    (g.K.Keeper.kept c.passes.keeper) c.passes-test.true c.if-block.true)
+    c.passes.invariant.whole in
+    record { answer = end.0; values = c.scale_values.ensures.values ∙ end.1; offs = end.2; same = search rules; rows = end.3 }
 
-pub returns-in-None : goal.returns-in-None
-returns-in-None g c =
-    let end = run_ends g.T.Arithmetic.ops g.T.Real.Arithmetic.ops g.T.Real.RealScalar.real c.args.tolerance c.args.limit
-    c.args.side c.args.largest c.args.values.now c.args.offs.now c.delimit_subproblem-block.new.offs
+pub returns-in_err-end : goal.returns-in_err-end
+returns-in_err-end g c =
+    let o = g.T.Arithmetic.ops in
+    let p = g.T.Real.Arithmetic.ops in
+    let q = g.T.Real.RealScalar.real in
+    let form = c.args.form.now in
+    let none : c.pass.result ≡ None = c.ok_or.ensures.ok_part ∙ ap result_ok c.in_err-end.was in
+    let end = run_ends o p q c.args.tolerance c.args.limit (length form.values.now) (length form.offs.now) c.args.largest
+    form.values.now c.delimit_subproblem-block.new.self.values.now form.offs.now c.delimit_subproblem-block.new.self.offs.now
     c.delimit_subproblem-block.result (g.K.Keeper.kept c.args.keeper.now)
-    (ended_of (no_pair c.passes.count) c.pass.new.values c.pass.new.offs (g.K.Keeper.kept c.pass.new.keeper))
-    c.delimit_subproblem-block.ensures.offs c.delimit_subproblem-block.ensures.block _
-    (ends_broken g.T.Arithmetic.ops g.T.Real.Arithmetic.ops g.T.Real.RealScalar.real c.args.tolerance c.args.limit
-    c.passes.count c.passes.values c.pass.new.values c.passes.offs c.pass.new.offs c.passes.block
-    (g.K.Keeper.kept c.passes.keeper) (g.K.Keeper.kept c.pass.new.keeper) c.passes-test.true c.if-block.false
-    c.in-None.ensures.end c.pass.ensures.values c.pass.ensures.offs c.pass.ensures.rows)
-    c.passes.invariant.0 in
-    record { answer = end.0; values = end.1; offs = end.2; rows = end.3 }
+    (ended_of (no_pair c.passes.count) c.pass.new.form.values.now c.pass.new.form.offs.now (g.K.Keeper.kept c.pass.new.keeper))
+    (omega (arith, form.lengths)) c.delimit_subproblem-block.ensures.values c.delimit_subproblem-block.ensures.offs
+    c.delimit_subproblem-block.ensures.block _
+    (ends_broken o p q c.args.tolerance c.args.limit c.passes.count c.passes.form.values.now c.pass.new.form.values.now
+    c.passes.form.offs.now c.pass.new.form.offs.now c.passes.block (g.K.Keeper.kept c.passes.keeper)
+    (g.K.Keeper.kept c.pass.new.keeper) c.passes-test.true c.if-block.false (sym none ∙ c.pass.ensures.end)
+    c.pass.ensures.values c.pass.ensures.offs c.pass.ensures.rows)
+    c.passes.invariant.whole in
+    let back = err_from_is_err_and c.from_residual.result c.from_residual.ensures.1 in
+    record {
+      answer = ap answered (back.1 ∙ ap Err back.2 ∙ sym c.in_err-end.was ∙ c.ok_or.ensures.value
+          ∙ ap (λ x. ok_or x (Pair c.passes.count)) none) ∙ end.0;
+      values = end.1;
+      offs = end.2;
+      same = search rules;
+      rows = end.3;
+    }
 
 pub passes-preserved : goal.passes-preserved
 passes-preserved g c =
-    let falls : c.in-Some.end ≤ c.passes.block.end = pass_falls g.T.Real.Arithmetic.ops g.T.Real.RealScalar.real
-    c.args.tolerance
-    c.passes.block.start c.passes.block.end c.in-Some.end c.passes.values c.passes.offs
-    c.in-Some.ensures.end in (
-      ends_passed g.T.Arithmetic.ops g.T.Real.Arithmetic.ops g.T.Real.RealScalar.real c.args.tolerance c.args.limit
-          c.passes.count c.in-Some.end c.passes.values c.pass.new.values c.passes.offs c.pass.new.offs
-          c.delimit_subproblem-block-in-Some.new.offs c.passes.block c.delimit_subproblem-block-in-Some.result
-          (g.K.Keeper.kept c.passes.keeper) (g.K.Keeper.kept c.pass.new.keeper) c.passes-test.true c.if-block.false
-          c.in-Some.ensures.end c.pass.ensures.values c.pass.ensures.offs c.pass.ensures.rows
-          c.delimit_subproblem-block-in-Some.ensures.offs c.delimit_subproblem-block-in-Some.ensures.block
-          ∙ c.passes.invariant.0,
-      ap (λ q. q.width) c.pass.ensures.rows ∙ c.passes.invariant.1,
-      c.delimit_subproblem-block-in-Some.ensures.ordered,
-      omega (
-        arith,
-        c.passes.invariant.3,
-        c.delimit_subproblem-block-in-Some.ensures.below,
-        c.delimit_subproblem-block-in-Some.auto.offs,
-        c.pass.auto.offs,
-      ),
-      omega arith,
-    )
+    let o = g.T.Arithmetic.ops in
+    let p = g.T.Real.Arithmetic.ops in
+    let q = g.T.Real.RealScalar.real in
+    let some : Some c.in_ok-end.end ≡ pass_end p q c.args.tolerance c.passes.block.start c.passes.block.end
+    c.passes.form.values.now c.passes.form.offs.now =
+    sym (c.ok_or.ensures.ok_part ∙ ap result_ok c.in_ok-end.was) ∙ c.pass.ensures.end in
+    let next = c.delimit_subproblem-block-in-passes in
+    let falls : c.in_ok-end.end ≤ c.passes.block.end = pass_falls p q c.args.tolerance c.passes.block.start c.passes.block.end
+    c.in_ok-end.end c.passes.form.values.now c.passes.form.offs.now some in
+    record {
+      whole = ends_passed o p q c.args.tolerance c.args.limit c.passes.count c.in_ok-end.end c.passes.form.values.now
+          c.pass.new.form.values.now next.new.self.values.now c.passes.form.offs.now c.pass.new.form.offs.now
+          next.new.self.offs.now c.passes.block next.result (g.K.Keeper.kept c.passes.keeper)
+          (g.K.Keeper.kept c.pass.new.keeper) c.passes-test.true c.if-block.false some
+          c.pass.ensures.values c.pass.ensures.offs c.pass.ensures.rows next.ensures.values next.ensures.offs next.ensures.block
+          ∙ c.passes.invariant.whole;
+      width = ap (λ k. k.width) c.pass.ensures.rows ∙ c.passes.invariant.width;
+      ordered = next.ensures.ordered;
+      inside = omega (arith, c.passes.invariant.inside, next.ensures.below, next.ensures.same.length, c.pass.ensures.same.length);
+      same = search rules;
+    }
 
 pub returns : goal.returns
 returns g c =
-    let end = run_ends g.T.Arithmetic.ops g.T.Real.Arithmetic.ops g.T.Real.RealScalar.real c.args.tolerance c.args.limit
-    c.args.side c.args.largest c.args.values.now c.args.offs.now c.delimit_subproblem-block.new.offs
+    let o = g.T.Arithmetic.ops in
+    let p = g.T.Real.Arithmetic.ops in
+    let q = g.T.Real.RealScalar.real in
+    let form = c.args.form.now in
+    let end = run_ends o p q c.args.tolerance c.args.limit (length form.values.now) (length form.offs.now) c.args.largest
+    form.values.now c.delimit_subproblem-block.new.self.values.now form.offs.now c.delimit_subproblem-block.new.self.offs.now
     c.delimit_subproblem-block.result (g.K.Keeper.kept c.args.keeper.now)
-    (ended_of (not_settled c.passes.count) c.passes.values c.passes.offs (g.K.Keeper.kept c.passes.keeper))
-    c.delimit_subproblem-block.ensures.offs c.delimit_subproblem-block.ensures.block _
-    (ends_over g.T.Arithmetic.ops g.T.Real.Arithmetic.ops g.T.Real.RealScalar.real c.args.tolerance c.args.limit
-    c.passes.count c.passes.values c.passes.offs c.passes.block (g.K.Keeper.kept c.passes.keeper)
-    c.passes-test.false)
-    c.passes.invariant.0 in
-    record { answer = end.0; values = end.1; offs = end.2; rows = end.3 }
+    (ended_of (not_settled c.args.limit) c.passes.form.values.now c.passes.form.offs.now (g.K.Keeper.kept c.passes.keeper))
+    (omega (arith, form.lengths)) c.delimit_subproblem-block.ensures.values c.delimit_subproblem-block.ensures.offs
+    c.delimit_subproblem-block.ensures.block _
+    (ends_over o p q c.args.tolerance c.args.limit c.passes.count c.passes.form.values.now c.passes.form.offs.now c.passes.block
+    (g.K.Keeper.kept c.passes.keeper) c.passes.auto.count-end c.passes-test.false)
+    c.passes.invariant.whole in
+    record { answer = end.0; values = end.1; offs = end.2; same = search rules; rows = end.3 }

@@ -1,0 +1,10 @@
+// The form that is worked on, in a file of its own: definitions name it.
+ghost use Rattle.std.specs.Prelude.{◌≡◌, ◌+◌, length};
+
+// A tridiagonal form in the buffers that were handed in: values on the diagonal, and the entries beside it.
+#[derive(Drop)]
+pub(crate) struct Tridiagonal<'a, R: Copy> {
+    pub(crate) values: &'a mut [R],
+    pub(crate) offs: &'a mut [R],
+    ghost lengths: { length offs.now + 1 ≡ length values.now },
+}
