@@ -1,5 +1,5 @@
 -- Every table that a sheet closes is gathered.
-use Rattle.std.proofs.Common.{◌≡◌, ℕ, zero, suc, ◌+◌, Bool, true, false, cond, T, eqb, List, [], ◌∷◌, Some, None, Option, sym, subst}
+use Rattle.std.proofs.Common.{◌≡◌, ℕ, zero, suc, ◌+◌, Bool, true, false, cond, T, eqb, List, [], ◌∷◌, Some, None, Option}
 use lib.Ieee.{Float, binary64, of_bits}
 use lib.Ieee.Bits.{of_bits-fits}
 use Rattle.std.specs.List.{AllByRecursion}
@@ -12,12 +12,15 @@ use Rattle.job.specs.Gathered.{Gathered}
 use Rattle.job.specs.Opening.{made, turned, starved, opened}
 use Rattle.job.specs.Typed.{Typed, blank, is_side, putting, tolerating, limiting}
 use Rattle.job.proofs.Gathers.{blank_gathered, putting_gathered, tolerating_gathered, limiting_gathered}
+use Rattle.sheet.specs.declared.desk.Asked.{Asked}
+use Rattle.sheet.specs.declared.desk.Table.{Table as Open}
+use Rattle.sheet.specs.declared.desk.Table.TheVariants as table
 use Rattle.sheet.specs.Commands.{Found, nothing, found, wrong, code_of, coded}
 use Rattle.sheet.specs.Commands.{Said, opens, entry, outline_entry, tolerance, limit, values, vectors}
 use Rattle.sheet.specs.Desk.{State, idle, real, outline, After, goes, closes, stops, applying, typing, starting}
-use Rattle.sheet.specs.Desk.{reals, outlines, real_rules, off_real, on_outline, wrong_operand}
-use Rattle.sheet.specs.Laws.{gathered_reading, gathered_table, Gathers}
-use Rattle.sheet.specs.Sheets.{Run, following, running, run_from, Reading, turning, reading, table_from}
+use Rattle.sheet.specs.Desk.{reals, outlines, real_rules, asked_of, off_real, on_outline, wrong_operand}
+use Rattle.sheet.specs.Laws.{gathered_table, Gathers}
+use Rattle.sheet.specs.Sheets.{Run, following, running, run_from}
 
 OnDesk : State → Type 0
 OnDesk idle = Unit {0}
@@ -122,28 +125,7 @@ pub gathers : (s : List ℕ) → Gathers s
 unfolding OnDesk
 gathers s = run_gathered s 0 0 idle tt
 
-turned_on : (on : State → Reading) (place after : ℕ) (a : After) → Leaves a → ((st : State) → OnDesk st → gathered_reading (on st)) →
-    gathered_reading (turning on place after a)
-unfolding Leaves OnDesk
-turned_on on place after (goes st) h f = f st h
-turned_on on place after (closes t) h f = h
-turned_on on place after (stops w st) h f = tt
-
-read_on : (on : ℕ → State → Reading) (room : Bool) (place : ℕ) (st : State) (f : Found) → OnDesk st →
-    ((n : ℕ) (st : State) → OnDesk st → gathered_reading (on n st)) → gathered_reading (reading on room place st f)
-read_on on room place st nothing h f = tt
-read_on on room place st (wrong w) h f = tt
-read_on on room place st (found s n) h f =
-    turned_on (on n) place (place + 1 + n) (applying room st s) (applied room st s h) (f n)
-
-table_gathered : (bs : List ℕ) (room : Bool) (skip p : ℕ) (st : State) → OnDesk st → gathered_reading (table_from room skip p st bs)
-unfolding table_from
-table_gathered [] room skip p st h = tt
-table_gathered (b ∷ bs) room (suc skip) p st h = table_gathered bs room skip (p + 1) st h
-table_gathered (b ∷ bs) room zero p st h =
-    read_on (λ n st. table_from room n (p + 1) st bs) room p st (coded (code_of b) bs) h (λ n st g. table_gathered bs room n (p + 1) st g)
-
--- the table that is read next
-pub reads_gathered : (bs : List ℕ) (room : Bool) (p : ℕ) (r : Reading) → r ≡ table_from room 0 p idle bs → gathered_reading r
-unfolding OnDesk
-reads_gathered bs room p r e = subst gathered_reading (sym e) (table_gathered bs room 0 p idle tt)
+-- a table that was closed keeps it by its type
+pub closed_gathered : (asked : Asked) (t : Open) → gathered_table (asked_of asked t)
+closed_gathered asked (table.Real job) = job.gathered
+closed_gathered asked (table.Outline job) = job.gathered
