@@ -1,5 +1,5 @@
 -- Every table that a sheet closes is gathered.
-use Rattle.std.proofs.Common.{◌≡◌, ℕ, zero, suc, ◌+◌, Bool, true, false, cond, T, eqb, List, [], ◌∷◌, Some, None, Option}
+use Rattle.std.proofs.Common.{ℕ, zero, suc, ◌+◌, Bool, true, false, cond, T, eqb, List, [], ◌∷◌, Some, None, Option}
 use lib.Ieee.{Float, binary64, of_bits}
 use lib.Ieee.Bits.{of_bits-fits}
 use Rattle.std.specs.List.{AllByRecursion}
