@@ -1,5 +1,5 @@
 -- What a command leaves on the desk is a table, and memory is wanted only where none lies there.
-use Rattle.std.proofs.Common.{◌≡◌, ℕ, Bool, true, false, cond, eqb, Some, None, Option, sym, refl, ap, ◌∙◌}
+use Rattle.std.proofs.Common.{◌≡◌, ℕ, Bool, true, false, cond, eqb, Some, None, Option, sym, refl, ap, ◌∙◌, subst}
 use borrow.Author.Tests.{clash}
 use lib.Ieee.{Float, binary64, of_bits}
 use Rattle.fault.specs.Refusals.{Refusal as Known}
@@ -197,3 +197,6 @@ unchanged room (outline j) values = tt
 unchanged room idle vectors = refl
 unchanged room (real j) vectors = tt
 unchanged room (outline j) vectors = tt
+
+pub refused_unchanged : (room : Bool) (st : State) (s : Said) (a : After) → a ≡ applying room st s → Unchanged st a
+refused_unchanged room st s a e = subst (Unchanged st) (sym e) (unchanged room st s)
