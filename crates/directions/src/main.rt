@@ -17,9 +17,8 @@ fn read_sheet(rt: &HostRuntime) -> anyhow::Result<Vec<u8>> {
 
 fn main(rt: HostRuntime) -> anyhow::Result<()> {
     let sheet = read_sheet(&rt)?;
-    let Ok(listing) = list_sheet(rt.alloc(), &sheet) else {
-        return Err(anyhow!("no memory for the sheet's tables"));
-    };
-    rt.print(listing.text(rt.alloc())?)?;
+    let listing = list_sheet(rt.alloc(), &sheet)
+        .map_err(|_| anyhow!("no memory for the sheet's tables"))?;
+    rt.print(listing)?;
     Ok(())
 }

@@ -77,8 +77,8 @@ final_from (b ∷ bs) t zero p st x e not =
     (λ n st f. final_from bs t n (p + 1) st x f not))
     (longer (code_of b) bs t)
 
-pub final : (s : List ℕ) → Final s
-final s t x e not = final_from s t 0 0 idle x e not
+pub unread : (s : List ℕ) → Final s
+unread s t x e not = final_from s t 0 0 idle x e not
 
 -- One run and then another.
 abbrev and_then : Run → Run → Run

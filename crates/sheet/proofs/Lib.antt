@@ -2,5 +2,6 @@ pub mod Desks
 pub mod Gathering
 pub mod Hexadecimal
 pub mod Joining
+pub mod LittleEndian
 pub mod Runs
 pub mod TableSteps

@@ -64,19 +64,8 @@ fn list_tables(heap: Global, sheet: &[u8]) -> Result<Listing, AllocError>
     }
 }
 
-fn list_bounded(heap: Global, sheet: &[u8]) -> Result<Listing, AllocError>
-    ensures listing { IfOk result (λ l. listing_of l ≡ listed sheet.now) }
-{
-    if sheet.len() > LONGEST {
-        return Ok(Listing {
-            headings: Vec::new(heap),
-            refusal: Some(SheetFault::Solver(Fault::Length).at(0)),
-        });
-    }
-    list_tables(heap, sheet)
-}
-
 // The listing of a sheet.
+#[tactic(auto, using(crate::proofs::Gathering::gathers, crate::proofs::Joining::unread, crate::proofs::Joining::joins))]
 pub fn list_sheet(heap: Global, sheet: &[u8]) -> Result<Listing, AllocError>
     ensures listing { IfOk result (λ l. listing_of l ≡ listed sheet.now) }
     // the largest size gathered for each closed table is that of the whole table
@@ -86,5 +75,11 @@ pub fn list_sheet(heap: Global, sheet: &[u8]) -> Result<Listing, AllocError>
     // a sheet behind one that closes all its tables is listed after it
     ensures joins { Joins sheet.now }
 {
-    list_bounded(heap, sheet)
+    if sheet.len() > LONGEST {
+        return Ok(Listing {
+            headings: Vec::new(heap),
+            refusal: Some(SheetFault::Solver(Fault::Length).at(0)),
+        });
+    }
+    list_tables(heap, sheet)
 }

@@ -1,10 +1,9 @@
-// The operands of a command, little-endian. Each read is total: a byte past the end is zero, so that no length has to be
-// carried along.
+// The operands of a command, little-endian.
 ghost use Rattle.std.specs.Prelude.{◌≡◌, from_bits};
 ghost use Rattle.std.specs.Float.{binary64};
 ghost use Rattle.sheet.specs.Bytes.{field};
 
-use crate::bytes::{u8_at, u16_at, u32_at, u64_at};
+use crate::bytes::bytes_at;
 use std::num::f64_from_bits_with_nan;
 
 // The operand bytes of a command, and the place of the command's byte.
@@ -18,25 +17,25 @@ impl Operands<'_> {
     pub(crate) fn u8_at(self, i: usize) -> u8
         ensures value { result ≡ field i 1 self.entry.bytes.now }
     {
-        u8_at(self.bytes, i)
+        u8::from_le_bytes(bytes_at(self.bytes, i))
     }
 
     pub(crate) fn u16_at(self, i: usize) -> u16
         ensures value { result ≡ field i 2 self.entry.bytes.now }
     {
-        u16_at(self.bytes, i)
+        u16::from_le_bytes(bytes_at(self.bytes, i))
     }
 
     pub(crate) fn u32_at(self, i: usize) -> u32
         ensures value { result ≡ field i 4 self.entry.bytes.now }
     {
-        u32_at(self.bytes, i)
+        u32::from_le_bytes(bytes_at(self.bytes, i))
     }
 
     // The binary64 number in the eight bytes from `i` on.
     pub(crate) fn f64_at(self, i: usize) -> f64
         ensures value { result ≡ from_bits binary64 (field i 8 self.entry.bytes.now) }
     {
-        f64_from_bits_with_nan(u64_at(self.bytes, i))
+        f64_from_bits_with_nan(u64::from_le_bytes(bytes_at(self.bytes, i)))
     }
 }

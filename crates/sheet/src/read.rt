@@ -11,7 +11,7 @@ use crate::reading::Reading;
 use crate::sheet_fault::Refusal;
 use std::alloc::Global;
 
-#[tactic(auto, using(crate::proofs::Runs::table_first))]
+#[tactic(auto, using(crate::proofs::Runs::table_first, crate::proofs::Gathering::closed_gathered))]
 // The next table that the sheet closes from `place` on. A table still open at the sheet's end is none.
 pub fn next_table(heap: Global, sheet: &[u8], place: usize) -> Result<Option<Reading>, Refusal>
     ensures reading { reading_of result ≡ table_from (had_room (reading_of result)) 0 place idle (drop place sheet.now) }

@@ -19,33 +19,28 @@ fn digit(b: u8) -> u8
 }
 
 fn bytes_of(heap: Global, text: &[u8]) -> Result<Vec<u8>, AllocError> {
-    let mut bytes = Vec::new(heap);
-    for pair in text.chunks(2) {
-        if let [high, low] = pair {
-            bytes.push(digit(*high) * 16 + digit(*low))?;
-        }
-    }
-    Ok(bytes)
+    let (pairs, _) = text.as_chunks::<2>();
+    pairs
+        .iter()
+        .map(|[high, low]| digit(*high) * 16 + digit(*low))
+        .collect(heap)
 }
 
 // The listing of a sheet, in one line: each newline is a bar.
 fn list(heap: Global, sheet: &[u8]) -> anyhow::Result<String> {
-    let Ok(listing) = list_sheet(heap, sheet) else {
-        return Err(anyhow!("no memory for the sheet's tables"));
-    };
-    let mut line = String::new(heap);
-    for c in listing.text(heap)?.chars() {
-        line.push(if c == '\n' { '|' } else { c })?;
-    }
+    let listing =
+        list_sheet(heap, sheet).map_err(|_| anyhow!("no memory for the sheet's tables"))?;
+    let line = listing
+        .text(heap)?
+        .chars()
+        .map(|c| if c == '\n' { '|' } else { c })
+        .collect(heap)?;
     Ok(line)
 }
 
 // A sheet of this many bytes, each of which closes a table.
 fn long_sheet(heap: Global, length: usize) -> anyhow::Result<String> {
-    let mut sheet = Vec::new(heap);
-    for _ in 0..length {
-        sheet.push(6u8)?;
-    }
+    let sheet = vec![in heap; 6u8; length]?;
     list(heap, &sheet)
 }
 
