@@ -1,5 +1,6 @@
 // Reducing, assembling and settling one table.
 ghost use Rattle.std.specs.Prelude.{◌≡◌, ◌*◌, true, false, length, IfOk};
+ghost use Rattle.rows.specs.Makes.{all_rows};
 ghost use Rattle.tridiagonal.specs.Householder.{kind};
 ghost use Rattle.decomposition.specs.Forms.{Counts, Fits, form_of};
 ghost use Rattle.decomposition.specs.Solutions.{SameButVectors, given_room, had_room, settled_with, solution, solution_of};
@@ -13,6 +14,13 @@ use rows::{AllRows, Keeper, NoRows};
 use scalar::{Arithmetic, RealScalar, Scalar};
 use std::alloc::Global;
 use tridiagonal::assemble;
+
+// All rows of a square matrix that stands column by column.
+fn square_rows<'a, T: Scalar>(side: usize, cells: &'a mut [T]) -> AllRows<'a, T>
+    ensures kept { all_rows T.ops.zero result.width result.count result.cells.now ≡ all_rows T.ops.zero side side cells.old }
+{
+    AllRows::new(side, side, cells)
+}
 
 // Settles a form with a keeper of its side. The vectors are what the keeper then holds, column by column.
 fn solved<T: Scalar, K: Keeper<T>>(
@@ -55,7 +63,7 @@ pub fn symmetric_eigenvalues<T: Scalar>(
     limit: u32,
 ) -> Result<Solved<T>, Failure>
     ensures solution { solution_of result ≡ given_room (had_room result)
-        (solution (kind T.Arithmetic.ops T.Real.Arithmetic.ops T.Real.RealScalar.real) false n table.items tolerance limit) }
+        (solution (kind T.ops T.Real.ops T.Real.real) false n table.items tolerance limit) }
     ensures counts { IfOk result (Counts n 0) }
 {
     let form = reduced(heap, n, table)?;
@@ -72,15 +80,15 @@ pub fn symmetric_eigen<T: Scalar>(
     limit: u32,
 ) -> Result<Solved<T>, Failure>
     ensures solution { solution_of result ≡ given_room (had_room result)
-        (solution (kind T.Arithmetic.ops T.Real.Arithmetic.ops T.Real.RealScalar.real) true n table.items tolerance limit) }
+        (solution (kind T.ops T.Real.ops T.Real.real) true n table.items tolerance limit) }
     ensures counts { IfOk result (Counts n (n * n)) }
     // the largest size, the passes, the values and the refusals are those of the values alone
     ensures same_values { SameButVectors (solution_of result) (given_room (had_room result)
-        (solution (kind T.Arithmetic.ops T.Real.Arithmetic.ops T.Real.RealScalar.real) false n table.items tolerance limit)) }
+        (solution (kind T.ops T.Real.ops T.Real.real) false n table.items tolerance limit)) }
 {
     let form = reduced(heap, n, table)?;
     let mut q = zeros::<T>(heap, n * n)?;
     assemble(&form.reduction, &form.table, &form.signs, &mut q)?;
-    let mut keeper = AllRows::new(n, n, &mut q);
+    let mut keeper = square_rows(n, &mut q);
     solved::<T, AllRows<'_, T>>(heap, form, &mut keeper, tolerance, limit)
 }

@@ -28,7 +28,7 @@ returns g c =
     let f = form_of c.in_ok-form.form in
     let told = c.in_ok-form.ensures.form in
     let side : f.side ≡ n = ap (λ (f : Form _ _). f.side) told.1 in
-    let kept = all_rows g.T.Arithmetic.ops.zero c.new-keeper.result.width c.new-keeper.result.count c.new-keeper.result.cells.now in
+    let kept = all_rows g.T.Arithmetic.ops.zero c.square_rows-keeper.result.width c.square_rows-keeper.result.count c.square_rows-keeper.result.cells.now in
     let again = with_items_is c.in_ok-q.q c.assemble.new.q (c.assemble.auto.q ∙ c.deref_mut.ensures.len) in
     let is =
     c.deref_mut-2.ensures.value ∙ again
@@ -38,7 +38,7 @@ returns g c =
     ap length (c.deref_mut-2.ensures.value ∙ again) ∙ c.assemble.auto.q ∙ ap length c.deref_mut.ensures.value
     ∙ c.in_ok-q.ensures.count in
     let held : kept ≡ held_of_q K f =
-    rows_held K f told.2 n c.deref_mut-2.result.now kept (sym side) is whole c.new-keeper.ensures.kept in
+    rows_held K f told.2 n c.deref_mut-2.result.now kept (sym side) is whole c.square_rows-keeper.ensures.kept in
     let came =
     c.solved.ensures.solution
     ∙ ap (given_room (had_room c.solved.result))
