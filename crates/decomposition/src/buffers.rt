@@ -34,7 +34,7 @@ fn push_column<T: Scalar, K: Keeper<T>>(
         cells.old.items ++ column_of T.ops.zero (K.kept keeper.now).rows column) }
 {
     for row in 0..keeper.rows() {
-        cells.push(cell::<T, K>(keeper, row, column))?;
+        cells.push(cell(keeper, row, column))?;
     }
     Ok(())
 }
@@ -50,7 +50,7 @@ pub(crate) fn columns_of<T: Scalar, K: Keeper<T>>(
 {
     let mut cells = Vec::new(heap);
     for column in 0..keeper.width() {
-        push_column::<T, K>(&mut cells, keeper, column)?;
+        push_column(&mut cells, keeper, column)?;
     }
     Ok(cells)
 }

@@ -45,7 +45,7 @@ fn solved<T: Scalar, K: Keeper<T>>(
     } = form;
     let largest = reduction.largest();
     let passes = settled::<T, K>(reduction, &mut values, &mut offs, keeper, tolerance, limit)?;
-    let vectors = columns_of::<T, K>(heap, keeper)?;
+    let vectors = columns_of(heap, keeper)?;
     Ok(Solved {
         largest,
         passes,
@@ -68,7 +68,7 @@ pub fn symmetric_eigenvalues<T: Scalar>(
 {
     let form = reduced(heap, n, table)?;
     let mut keeper = NoRows::new(n);
-    solved::<T, NoRows>(heap, form, &mut keeper, tolerance, limit)
+    solved(heap, form, &mut keeper, tolerance, limit)
 }
 
 // The same with the eigenvectors.
@@ -87,8 +87,8 @@ pub fn symmetric_eigen<T: Scalar>(
         (solution (kind T.ops T.Real.ops T.Real.real) false n table.items tolerance limit)) }
 {
     let form = reduced(heap, n, table)?;
-    let mut q = zeros::<T>(heap, n * n)?;
+    let mut q = zeros(heap, n * n)?;
     assemble(&form.reduction, &form.table, &form.signs, &mut q)?;
     let mut keeper = square_rows(n, &mut q);
-    solved::<T, AllRows<'_, T>>(heap, form, &mut keeper, tolerance, limit)
+    solved(heap, form, &mut keeper, tolerance, limit)
 }

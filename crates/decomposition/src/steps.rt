@@ -25,11 +25,11 @@ pub(crate) fn reduced<T: Scalar>(
     if n == 0 || n > 512 {
         return Err(Failure::Solver(Fault::Side));
     }
-    let mut values = zeros::<T::Real>(heap, n)?;
-    let mut offs = zeros::<T::Real>(heap, n - 1)?;
-    let mut signs = zeros::<T>(heap, n - 1)?;
-    let mut scratch = zeros::<T>(heap, n - 1)?;
-    let reduction = reduce::<T>(
+    let mut values = zeros(heap, n)?;
+    let mut offs = zeros(heap, n - 1)?;
+    let mut signs = zeros(heap, n - 1)?;
+    let mut scratch = zeros(heap, n - 1)?;
+    let reduction = reduce(
         n,
         &mut table,
         &mut values,
