@@ -1,31 +1,32 @@
 -- What a keeper's rows hold, read cell by cell and column by column.
-use Rattle.std.proofs.Common.{◌≡◌, ℕ, zero, suc, ◌+◌, ◌*◌, ◌<◌, ◌≤◌, List, [], ◌∷◌, ◌++◌, length, get_or, take, sym, refl, ap, ◌∙◌, append_assoc, suc-mul, zero-mul, add-one}
+use Rattle.std.proofs.Common.{◌≡◌, ℕ, zero, suc, ◌+◌, ◌*◌, ◌<◌, ◌≤◌, List, [], ◌∷◌, ◌++◌, Ok, Err, Result, length, get_or, take, sym, refl, ap, ◌∙◌, suc-mul, zero-mul, add-one}
 use Rattle.std.proofs.lemmas.List.{length-append, length-map, map_more, take_all}
-use Rattle.fault.specs.Refusals.{Refusal}
-use Rattle.rows.specs.Keepers.{Answer, given, denied, read_at, cell_at}
+use Rattle.fault.specs.declared.Fault.{Fault}
+use Rattle.rows.specs.Keepers.{Answer, given, denied, answered, read_at, cell_at}
+use Rattle.std.specs.Result.{result_unwrap_or}
 use Rattle.decomposition.specs.Solutions.{column_of, by_columns}
 
 module _ {C : Type 0} (d : C) where
-  abbrev or_else : Answer C → C
+  unfoldable pub or_else : Answer C → C
   or_else (given x) = x
   or_else (denied w) = d
 
+  pub unwrapped : (a : Result C Fault) → result_unwrap_or a d ≡ or_else (answered a)
+  unfolding or_else
+  unwrapped (Ok x) = refl
+  unwrapped (Err e) = refl
+
   read_or : (row : List C) (i : ℕ) → or_else (read_at row i) ≡ get_or row i d
+  unfolding or_else
   read_or [] i = refl
   read_or (x ∷ row) zero = refl
   read_or (x ∷ row) (suc i) = read_or row i
 
-  cell_or : (rows : List (List C)) (r i : ℕ) → or_else (cell_at rows r i) ≡ get_or (get_or rows r []) i d
+  pub cell_or : (rows : List (List C)) (r i : ℕ) → or_else (cell_at rows r i) ≡ get_or (get_or rows r []) i d
+  unfolding or_else
   cell_or [] r i = refl
   cell_or (row ∷ rows) zero i = read_or row i
   cell_or (row ∷ rows) (suc r) i = cell_or rows r i
-
-  -- a cell that is held, and one that is not
-  pub cell_held : (rows : List (List C)) (r i : ℕ) (x : C) → given x ≡ cell_at rows r i → x ≡ get_or (get_or rows r []) i d
-  cell_held rows r i x e = ap or_else e ∙ cell_or rows r i
-
-  pub cell_outside : (rows : List (List C)) (r i : ℕ) (w : Refusal) → denied w ≡ cell_at rows r i → d ≡ get_or (get_or rows r []) i d
-  cell_outside rows r i w e = ap or_else e ∙ cell_or rows r i
 
   -- the columns are as long as there are rows
   pub length_columns : (rows : List (List C)) (k : ℕ) → length (by_columns d rows k) ≡ k * length rows
@@ -46,17 +47,9 @@ module _ {C : Type 0} (d : C) where
   columns_more rows k = rw add-one
 
   -- a column, cell by cell
-  pub column_more : (rows : List (List C)) (r i : ℕ) (before had now : List C) (x : C) → r < length rows →
-      x ≡ get_or (get_or rows r []) i d → now ≡ had ++ x ∷ [] → had ≡ before ++ column_of d (take r rows) i →
-      now ≡ before ++ column_of d (take (r + 1) rows) i
-  column_more rows r i before had now x h is pushed was =
-      let f : List C → C = λ row. get_or row i d in
-      pushed
-      ∙ ap (λ (l : List C). l ++ x ∷ []) was
-      ∙ append_assoc before (column_of d (take r rows) i) (x ∷ [])
-      ∙ ap (λ (y : C). before ++ (column_of d (take r rows) i ++ y ∷ [])) is
-      ∙ ap (λ (l : List C). before ++ l) (sym (map_more f rows r [] h))
+  pub column_step : (rows : List (List C)) (r i : ℕ) → r < length rows →
+      column_of d (take (r + 1) rows) i ≡ column_of d (take r rows) i ++ get_or (get_or rows r []) i d ∷ []
+  column_step rows r i h = map_more (λ (row : List C). get_or row i d) rows r [] h
 
-  pub column_all : (rows : List (List C)) (r i : ℕ) (before now : List C) → length rows ≤ r →
-      now ≡ before ++ column_of d (take r rows) i → now ≡ before ++ column_of d rows i
-  column_all rows r i before now h is = is ∙ ap (λ (l : List (List C)). before ++ column_of d l i) (take_all r rows h)
+  pub column_whole : (rows : List (List C)) (r i : ℕ) → length rows ≤ r → column_of d (take r rows) i ≡ column_of d rows i
+  column_whole rows r i h = ap (λ (l : List (List C)). column_of d l i) (take_all r rows h)

@@ -1,10 +1,10 @@
 -- From the run of a settling to the solution.
-use Rattle.std.proofs.Common.{◌≡◌, ℕ, ◌*◌, ◌<◌, ◌≤◌, Bool, true, cond, ◌&&◌, eqb, leb, List, [], map, length, None, Option, sym, ap, ◌∙◌, arith}
+use Rattle.std.proofs.Common.{◌≡◌, ℕ, zero, suc, ◌*◌, ◌<◌, ◌≤◌, true, false, ◌&&◌, eqb, leb, List, [], map, length, None, Option, sym, refl, ap, ◌∙◌, arith}
 use Rattle.std.proofs.lemmas.Bool.{and_from, le-leb, eq-eqb, cond-true}
 use Rattle.std.proofs.lemmas.List.FromFn.{length-map-range_with_len}
 use Rattle.std.proofs.lemmas.List.{length-map}
 use Rattle.fault.specs.Refusals.{Refusal}
-use Rattle.rows.specs.Keepers.{Kept, given, denied}
+use Rattle.rows.specs.Keepers.{Kept}
 use Rattle.rows.specs.Makes.{width_fits, count_fits, no_rows_width, all_rows_fit, all_rows, row_of, rows_of}
 use Rattle.rows.specs.Turns.{turned_all}
 use Rattle.rows.proofs.Held.{all_rows_held}
@@ -12,10 +12,10 @@ use Rattle.tridiagonal.specs.Assemble.{assemble_refusal, matrix_q}
 use Rattle.tridiagonal.specs.Householder.{Kind}
 use Rattle.tridiagonal.specs.Outcome.{unless_refused}
 use Rattle.tridiagonal.specs.Tables.{lower}
+use Rattle.eigen.specs.Laws.{Start, Finish, IsRun, task_of as start_task}
 use Rattle.eigen.specs.Runs.{Run}
 use Rattle.eigen.specs.Settles.{settle_of}
-use Rattle.eigen.specs.Turnings.{kept_all}
-use Rattle.decomposition.specs.Solutions.{Form, solved, failed, ended, settled_form, task_of, vectors_of, rows_of_q, by_columns}
+use Rattle.decomposition.specs.Solutions.{Form, ended_with, settled_form, settled_with, task_of, rows_of_q, by_columns, columns_kept}
 use Rattle.decomposition.specs.Forms.{Fits}
 use Rattle.decomposition.proofs.HeldRows.{length_columns}
 
@@ -30,26 +30,18 @@ all_rows_of_q_fit n l some few e =
     and_from (width_fits n && count_fits n) (eqb l (n * n)) (and_from (width_fits n) (count_fits n) (width_allowed n some few) (le-leb n 512 few))
     (eq-eqb l (n * n) e)
 
+-- with a keeper of no rows there are no vectors
+pub columns_of_none : {C : Type 0} (d : C) (k : ℕ) → by_columns d [] k ≡ []
+unfolding by_columns
+columns_of_none d zero = refl
+columns_of_none d (suc k) = simp (columns_of_none d k)
+
 module _ {C R : Type 0} (K : Kind C R) (f : Form C R) (tolerance : R) (limit : ℕ) where
-  abbrev pub run : Run R
+  abbrev run : Run R
   run = settle_of K.reals K.real (task_of f tolerance) limit
 
-  -- a run from what the form holds, with a keeper of its side
-  pub same_run : (side width : ℕ) (largest : R) (v0 f0 : List R) → side ≡ f.side → largest ≡ f.largest → v0 ≡ f.values → f0 ≡ f.offs →
-      width ≡ f.side →
-      settle_of K.reals K.real
-      (record { side = side; largest = largest; values = v0; offs = f0; tolerance = tolerance; width = width }) limit ≡ run
-  same_run side width largest v0 f0 es el ev ef ew = rw (es, el, ev, ef, ew)
-
-  -- the solution of a run that settles
-  pub settles : (asked : Bool) (passes : ℕ) (largest : R) (v1 : List R) (vectors : List C) → largest ≡ f.largest →
-      given passes ≡ run.answer → v1 ≡ run.values → vectors ≡ cond asked (vectors_of K f run.turns) [] →
-      solved (record { largest = largest; passes = passes; values = v1; vectors = vectors }) ≡ settled_form K asked f tolerance limit
-  settles asked passes largest v1 vectors el ea ev ec = rw (el, ev, ec) (ap (ended K asked f run) ea)
-
-  -- and of one that does not
-  pub unsettled : (asked : Bool) (why : Refusal) → denied why ≡ run.answer → failed why ≡ settled_form K asked f tolerance limit
-  unsettled asked why ea = ap (ended K asked f run) ea
+  pub settled_with_none : (w : ℕ) → settled_with K (record { width = w; rows = [] }) f tolerance limit ≡ settled_form K false f tolerance limit
+  settled_with_none w = ap (λ (v : List C). ended_with K v f run run.answer) (columns_of_none K.ops.zero w)
 
 unless_none : {A : Type 0} (o : Option Refusal) (was made left : A) → None ≡ o → left ≡ unless_refused o was made → left ≡ made
 unless_none o was made left none is = rw (sym none) at is
@@ -78,16 +70,19 @@ module _ {C R : Type 0} (K : Kind C R) (f : Form C R) where
       (all_rows_of_q_fit f.side (length q) fits.some fits.few (el ∙ ap (λ (n : ℕ). n * n) es))
       ∙ ap (λ (cells : List C). record { width = f.side; rows = rows_of K.ops.zero f.side f.side cells }) eq
 
-  -- and, turned along, gives the vectors
-  pub vectors_turned : (run left : Run R) (k m : Kept C) (vectors : List C) → left ≡ run → k ≡ held_of_q → m ≡ kept_all K.ops left.turns k →
-      vectors ≡ by_columns K.ops.zero m.rows m.width → vectors ≡ vectors_of K f run.turns
-  vectors_turned run left k m vectors same ek em ev =
-      ev ∙ ap (λ (h : Kept C). by_columns K.ops.zero h.rows h.width)
-      (em ∙ ap (kept_all K.ops left.turns) ek ∙ ap (λ (r : Run R). kept_all K.ops r.turns held_of_q) same)
+  pub settled_with_q : (tolerance : R) (limit : ℕ) (k : Kept C) → k ≡ held_of_q →
+      settled_with K k f tolerance limit ≡ settled_form K true f tolerance limit
+  settled_with_q tolerance limit k ek = ap (λ (h : Kept C). settled_with K h f tolerance limit) ek
 
--- as many entries as the square of the side
-pub count_vectors : {C R : Type 0} (K : Kind C R) (f : Form C R) (run : Run R) → length (vectors_of K f run.turns) ≡ f.side * f.side
-count_vectors K f run =
-    length_columns K.ops.zero (map (turned_all K.ops run.turns) (rows_of_q K f)) f.side
-    ∙ ap (λ (k : ℕ). f.side * k) (length-map (rows_of_q K f) (turned_all K.ops run.turns)
-    ∙ length-map-range_with_len (row_of K.ops.zero f.side f.side (matrix_q K f.side (lower f.side 0 f.side f.table) f.signs)) 0 f.side)
+  pub count_of_q : length (rows_of_q K f) ≡ f.side
+  count_of_q =
+      length-map-range_with_len (row_of K.ops.zero f.side f.side (matrix_q K f.side (lower f.side 0 f.side f.table) f.signs)) 0 f.side
+
+-- after a run, as many entries as the width times the rows
+pub count_columns : {C R : Type 0} (K : Kind C R) (s : Start C R) (limit : ℕ) (f : Finish C R) (cells : List C) →
+    IsRun K.ops K.reals K.real s limit f → cells ≡ columns_kept K f.kept → length cells ≡ s.kept.width * length s.kept.rows
+count_columns K s limit f cells ran ec =
+    let turns = (settle_of K.reals K.real (start_task s) limit).turns in
+    ap length ec ∙ ap (λ (h : Kept _). length (columns_kept K h)) ran.kept
+    ∙ length_columns K.ops.zero (map (turned_all K.ops turns) s.kept.rows) s.kept.width
+    ∙ ap (λ (l : ℕ). s.kept.width * l) (length-map s.kept.rows (turned_all K.ops turns))

@@ -1,7 +1,7 @@
 -- What the decomposition of one table comes to. Definitions only.
 use Rattle.std.specs.Prelude.{◌≡◌, ℕ, zero, suc, ◌-◌, Bool, true, false, cond, List, [], ◌++◌, map, Some, None, Ok, Err, vec_items, Option, Result, slice_index_or}
 use Rattle.fault.specs.Refusals.{Refusal, refusal}
-use Rattle.rows.specs.Keepers.{Answer, given, denied}
+use Rattle.rows.specs.Keepers.{Kept, Answer, given, denied}
 use Rattle.rows.specs.Makes.{rows_of}
 use Rattle.rows.specs.Turns.{Turn, turned_all}
 use Rattle.tridiagonal.specs.Assemble.{matrix_q}
@@ -11,6 +11,7 @@ use Rattle.tridiagonal.specs.Reduce.{largest_size, reduced_table, values_of, off
 use Rattle.tridiagonal.specs.Tables.{lower}
 use Rattle.eigen.specs.Runs.{Run}
 use Rattle.eigen.specs.Settles.{Task, settle_of}
+use Rattle.eigen.specs.Turnings.{kept_all}
 use Rattle.decomposition.specs.declared.failure.Failure.{Failure}
 use Rattle.decomposition.specs.declared.failure.Failure.TheVariants.{Solver, Memory}
 use Rattle.decomposition.specs.declared.solved.Solved.{Solved}
@@ -115,19 +116,34 @@ module _ {C R : Type 0} (K : Kind C R) where
   abbrev pub vectors_of : Form C R → List (Turn R) → List C
   vectors_of f turns = by_columns K.ops.zero (map (turned_all K.ops turns) (rows_of_q f)) f.side
 
-  -- what a run comes to, with the vectors where they are asked
-  abbrev pub ended : Bool → Form C R → Run R → Answer ℕ → Solution C R
-  ended asked f run (given passes) = solved (record {
+  -- what a run comes to, with these vectors
+  abbrev pub ended_with : List C → Form C R → Run R → Answer ℕ → Solution C R
+  ended_with vectors f run (given passes) = solved (record {
     largest = f.largest;
     passes = passes;
     values = run.values;
-    vectors = cond asked (vectors_of f run.turns) [];
+    vectors = vectors;
   })
-  ended asked f run (denied why) = failed why
+  ended_with vectors f run (denied why) = failed why
+
+  -- with the vectors where they are asked
+  abbrev pub ended : Bool → Form C R → Run R → Answer ℕ → Solution C R
+  ended asked f run a = ended_with (cond asked (vectors_of f run.turns) []) f run a
 
   abbrev pub settled_form : Bool → Form C R → R → ℕ → Solution C R
   settled_form asked f tolerance limit =
       ended asked f (settle_of K.reals K.real (task_of f tolerance) limit)
+      (settle_of K.reals K.real (task_of f tolerance) limit).answer
+
+  -- all that a keeper holds, column by column
+  abbrev pub columns_kept : Kept C → List C
+  columns_kept k = by_columns K.ops.zero k.rows k.width
+
+  -- what a form comes to with a keeper: the vectors are what it holds at the end
+  abbrev pub settled_with : Kept C → Form C R → R → ℕ → Solution C R
+  settled_with k f tolerance limit =
+      ended_with (columns_kept (kept_all K.ops (settle_of K.reals K.real (task_of f tolerance) limit).turns k)) f
+      (settle_of K.reals K.real (task_of f tolerance) limit)
       (settle_of K.reals K.real (task_of f tolerance) limit).answer
 
   abbrev pub unless_failed : Option Refusal → Solution C R → Solution C R

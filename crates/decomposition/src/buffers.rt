@@ -16,41 +16,41 @@ pub(crate) fn zeros<T: Arithmetic>(heap: Global, count: usize) -> Result<Vec<T>,
 }
 
 // The number that a keeper holds at a row and a column, and zero outside.
+#[tactic(auto, using(crate::proofs::HeldRows::unwrapped, crate::proofs::HeldRows::cell_or))]
 fn cell<T: Scalar, K: Keeper<T>>(keeper: &K, row: usize, column: usize) -> T
-    ensures value { result ≡ slice_index_or (slice_index_or (K.Keeper.kept keeper.now).rows row []) column T.Arithmetic.ops.zero }
+    ensures value { result ≡ slice_index_or (slice_index_or (K.kept keeper.now).rows row []) column T.ops.zero }
 {
-    match keeper.read(row, column) {
-        Ok(x) => x,
-        Err(_) => T::zero(),
-    }
+    keeper.read(row, column).unwrap_or(T::zero())
 }
 
 // Adds a column of what a keeper holds.
+#[tactic(auto, using(crate::proofs::HeldRows::column_step, crate::proofs::HeldRows::column_whole))]
 fn push_column<T: Scalar, K: Keeper<T>>(
     cells: &mut Vec<T>,
     keeper: &K,
     column: usize,
 ) -> Result<(), AllocError>
     ensures cells { OnOk result (cells.new.items ≡
-        cells.old.items ++ column_of T.Arithmetic.ops.zero (K.Keeper.kept keeper.now).rows column) }
+        cells.old.items ++ column_of T.ops.zero (K.kept keeper.now).rows column) }
 {
     for row in 0..keeper.rows() {
-        cells.push(cell::<T, K>(keeper, row, column))?;
+        cells.push(cell(keeper, row, column))?;
     }
     Ok(())
 }
 
 // All that a keeper holds, column by column.
+#[tactic(auto, using(crate::proofs::HeldRows::columns_none, crate::proofs::HeldRows::columns_more))]
 pub(crate) fn columns_of<T: Scalar, K: Keeper<T>>(
     heap: Global,
     keeper: &K,
 ) -> Result<Vec<T>, AllocError>
-    ensures cells { IfOk result (λ v. v.items ≡ by_columns T.Arithmetic.ops.zero
-        (K.Keeper.kept keeper.now).rows (K.Keeper.kept keeper.now).width) }
+    ensures cells { IfOk result (λ v. v.items ≡ by_columns T.ops.zero
+        (K.kept keeper.now).rows (K.kept keeper.now).width) }
 {
     let mut cells = Vec::new(heap);
     for column in 0..keeper.width() {
-        push_column::<T, K>(&mut cells, keeper, column)?;
+        push_column(&mut cells, keeper, column)?;
     }
     Ok(cells)
 }

@@ -1,30 +1,40 @@
 // Reducing, assembling and settling one table.
-ghost use Rattle.std.specs.Prelude.{◌≡◌, ◌*◌, true, false, IfOk};
+ghost use Rattle.std.specs.Prelude.{◌≡◌, ◌*◌, true, false, length, IfOk};
+ghost use Rattle.rows.specs.Makes.{all_rows};
 ghost use Rattle.tridiagonal.specs.Householder.{kind};
 ghost use Rattle.decomposition.specs.Forms.{Counts, Fits, form_of};
-ghost use Rattle.decomposition.specs.Solutions.{SameButVectors, given_room, had_room, settled_form, solution, solution_of};
+ghost use Rattle.decomposition.specs.Solutions.{SameButVectors, given_room, had_room, settled_with, solution, solution_of};
 
 use crate::buffers::{columns_of, zeros};
 use crate::failure::Failure;
 use crate::form::Form;
 use crate::solved::Solved;
 use crate::steps::{reduced, settled};
-use rows::{AllRows, NoRows};
+use rows::{AllRows, Keeper, NoRows};
 use scalar::{Arithmetic, RealScalar, Scalar};
 use std::alloc::Global;
 use tridiagonal::assemble;
 
-// The values of what a reduction left.
-fn values_of<T: Scalar>(
+// All rows of a square matrix that stands column by column.
+fn square_rows<'a, T: Scalar>(side: usize, cells: &'a mut [T]) -> AllRows<'a, T>
+    ensures kept { all_rows T.ops.zero result.width result.count result.cells.now ≡ all_rows T.ops.zero side side cells.old }
+{
+    AllRows::new(side, side, cells)
+}
+
+// Settles a form with a keeper of its side. The vectors are what the keeper then holds, column by column.
+fn solved<T: Scalar, K: Keeper<T>>(
     heap: Global,
     form: Form<T>,
+    keeper: &mut K,
     tolerance: T::Real,
     limit: u32,
 ) -> Result<Solved<T>, Failure>
-    requires { Fits (form_of form) }
+    requires fits { Fits (form_of form) }
+    requires width { (K.kept keeper.old).width ≡ form.reduction.side }
     ensures solution { solution_of result ≡ given_room (had_room result)
-        (settled_form (kind T.Arithmetic.ops T.Real.Arithmetic.ops T.Real.RealScalar.real) false (form_of form) tolerance limit) }
-    ensures counts { IfOk result (Counts form.reduction.side 0) }
+        (settled_with (kind T.ops T.Real.ops T.Real.real) (K.kept keeper.old) (form_of form) tolerance limit) }
+    ensures counts { IfOk result (Counts form.reduction.side (form.reduction.side * length (K.kept keeper.old).rows)) }
 {
     let Form {
         reduction,
@@ -33,58 +43,9 @@ fn values_of<T: Scalar>(
         mut offs,
         signs: _,
     } = form;
-    let side = reduction.side();
     let largest = reduction.largest();
-    let mut keeper = NoRows::new(side);
-    let passes = settled::<T, NoRows>(
-        reduction,
-        &mut values,
-        &mut offs,
-        &mut keeper,
-        tolerance,
-        limit,
-    )?;
-    Ok(Solved {
-        largest,
-        passes,
-        values,
-        vectors: Vec::new(heap),
-    })
-}
-
-// The values, and the vectors: the rows of Q, turned along.
-fn vectors_of<T: Scalar>(
-    heap: Global,
-    form: Form<T>,
-    tolerance: T::Real,
-    limit: u32,
-) -> Result<Solved<T>, Failure>
-    requires { Fits (form_of form) }
-    ensures solution { solution_of result ≡ given_room (had_room result)
-        (settled_form (kind T.Arithmetic.ops T.Real.Arithmetic.ops T.Real.RealScalar.real) true (form_of form) tolerance limit) }
-    ensures counts { IfOk result (Counts form.reduction.side (form.reduction.side * form.reduction.side)) }
-{
-    let Form {
-        reduction,
-        table,
-        mut values,
-        mut offs,
-        signs,
-    } = form;
-    let side = reduction.side();
-    let largest = reduction.largest();
-    let mut q = zeros::<T>(heap, side * side)?;
-    assemble(&reduction, &table, &signs, &mut q)?;
-    let mut keeper = AllRows::new(side, side, &mut q);
-    let passes = settled::<T, AllRows<'_, T>>(
-        reduction,
-        &mut values,
-        &mut offs,
-        &mut keeper,
-        tolerance,
-        limit,
-    )?;
-    let vectors = columns_of::<T, AllRows<'_, T>>(heap, &keeper)?;
+    let passes = settled::<T, K>(reduction, &mut values, &mut offs, keeper, tolerance, limit)?;
+    let vectors = columns_of(heap, keeper)?;
     Ok(Solved {
         largest,
         passes,
@@ -102,11 +63,12 @@ pub fn symmetric_eigenvalues<T: Scalar>(
     limit: u32,
 ) -> Result<Solved<T>, Failure>
     ensures solution { solution_of result ≡ given_room (had_room result)
-        (solution (kind T.Arithmetic.ops T.Real.Arithmetic.ops T.Real.RealScalar.real) false n table.items tolerance limit) }
+        (solution (kind T.ops T.Real.ops T.Real.real) false n table.items tolerance limit) }
     ensures counts { IfOk result (Counts n 0) }
 {
     let form = reduced(heap, n, table)?;
-    values_of(heap, form, tolerance, limit)
+    let mut keeper = NoRows::new(n);
+    solved(heap, form, &mut keeper, tolerance, limit)
 }
 
 // The same with the eigenvectors.
@@ -118,12 +80,15 @@ pub fn symmetric_eigen<T: Scalar>(
     limit: u32,
 ) -> Result<Solved<T>, Failure>
     ensures solution { solution_of result ≡ given_room (had_room result)
-        (solution (kind T.Arithmetic.ops T.Real.Arithmetic.ops T.Real.RealScalar.real) true n table.items tolerance limit) }
+        (solution (kind T.ops T.Real.ops T.Real.real) true n table.items tolerance limit) }
     ensures counts { IfOk result (Counts n (n * n)) }
     // the largest size, the passes, the values and the refusals are those of the values alone
     ensures same_values { SameButVectors (solution_of result) (given_room (had_room result)
-        (solution (kind T.Arithmetic.ops T.Real.Arithmetic.ops T.Real.RealScalar.real) false n table.items tolerance limit)) }
+        (solution (kind T.ops T.Real.ops T.Real.real) false n table.items tolerance limit)) }
 {
     let form = reduced(heap, n, table)?;
-    vectors_of(heap, form, tolerance, limit)
+    let mut q = zeros(heap, n * n)?;
+    assemble(&form.reduction, &form.table, &form.signs, &mut q)?;
+    let mut keeper = square_rows(n, &mut q);
+    solved(heap, form, &mut keeper, tolerance, limit)
 }

@@ -20,16 +20,16 @@ pub(crate) fn reduced<T: Scalar>(
     n: usize,
     mut table: Vec<T>,
 ) -> Result<Form<T>, Failure>
-    ensures form { Reduces (kind T.Arithmetic.ops T.Real.Arithmetic.ops T.Real.RealScalar.real) n table.items result }
+    ensures form { Reduces (kind T.ops T.Real.ops T.Real.real) n table.items result }
 {
     if n == 0 || n > 512 {
         return Err(Failure::Solver(Fault::Side));
     }
-    let mut values = zeros::<T::Real>(heap, n)?;
-    let mut offs = zeros::<T::Real>(heap, n - 1)?;
-    let mut signs = zeros::<T>(heap, n - 1)?;
-    let mut scratch = zeros::<T>(heap, n - 1)?;
-    let reduction = reduce::<T>(
+    let mut values = zeros(heap, n)?;
+    let mut offs = zeros(heap, n - 1)?;
+    let mut signs = zeros(heap, n - 1)?;
+    let mut scratch = zeros(heap, n - 1)?;
+    let reduction = reduce(
         n,
         &mut table,
         &mut values,
@@ -55,10 +55,10 @@ pub(crate) fn settled<T: Scalar, K: Keeper<T>>(
     tolerance: T::Real,
     limit: u32,
 ) -> Result<u32, Fault>
-    ensures run { IsRun T.Arithmetic.ops T.Real.Arithmetic.ops T.Real.RealScalar.real
+    ensures run { IsRun T.ops T.Real.ops T.Real.real
         (start_of reduction.side reduction.largest values.old offs.old tolerance
-        (K.Keeper.kept keeper.old)) limit
-        (finish_of (answered result) values.new offs.new (K.Keeper.kept keeper.new)) }
+        (K.kept keeper.old)) limit
+        (finish_of (answered result) values.new offs.new (K.kept keeper.new)) }
 {
     let passes = settle::<T, K>(reduction, values, offs, keeper, tolerance, limit)?;
     Ok(passes)
