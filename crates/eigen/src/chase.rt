@@ -33,7 +33,7 @@ impl<R: RealScalar> Corner<R> {
         let cc = c.mul(c);
         let ss = s.mul(s);
         let cs = c.mul(s);
-        let b = cs.mul(R::literal_two()).mul(mij);
+        let b = cs.mul(R::TWO).mul(mij);
         Corner {
             mii: cc.mul(mii).add(ss.mul(mjj)).sub(b),
             mij: cs.mul(mii.sub(mjj)).add(mij.mul(cc.sub(ss))),

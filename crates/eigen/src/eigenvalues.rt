@@ -13,7 +13,7 @@ pub(crate) struct Vector2<R: Copy> {
 fn half_difference<R: RealScalar>(a: R, b: R) -> R
     ensures { result ≡ half_difference R.Arithmetic.ops R.RealScalar.real a b }
 {
-    a.sub(b).mul(R::literal_half())
+    a.sub(b).mul(R::HALF)
 }
 
 // The eigenvalues of the block (h00 h01)(h10 h11), or none where they are not real.
@@ -29,7 +29,7 @@ pub(crate) fn compute_2x2_eigvals<R: RealScalar>(
     let discriminant = h10.mul(h01).add(value.mul(value));
     if R::zero().le(discriminant) {
         let root = discriminant.sqrt();
-        let half_trace = h00.add(h11).mul(R::literal_half());
+        let half_trace = h00.add(h11).mul(R::HALF);
         Some(Vector2 {
             x: half_trace.add(root),
             y: half_trace.sub(root),

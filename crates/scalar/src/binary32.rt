@@ -102,18 +102,6 @@ impl RealScalar for f32 {
 
     ghost minus_two_is = { opposite_two binary32 };
 
-    fn literal_two() -> f32 {
-        Self::TWO
-    }
-
-    fn literal_half() -> f32 {
-        Self::HALF
-    }
-
-    fn literal_minus_two() -> f32 {
-        Self::MINUS_TWO
-    }
-
     fn div(self, other: f32) -> f32 {
         self / other
     }

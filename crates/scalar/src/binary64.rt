@@ -102,18 +102,6 @@ impl RealScalar for f64 {
 
     ghost minus_two_is = { opposite_two binary64 };
 
-    fn literal_two() -> f64 {
-        Self::TWO
-    }
-
-    fn literal_half() -> f64 {
-        Self::HALF
-    }
-
-    fn literal_minus_two() -> f64 {
-        Self::MINUS_TWO
-    }
-
     fn div(self, other: f64) -> f64 {
         self / other
     }

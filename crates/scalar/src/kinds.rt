@@ -72,16 +72,6 @@ pub trait RealScalar: Arithmetic<Part = Self> {
 
     ghost real: { RealOps Self };
 
-    // The constants, read through functions so that generic code knows their meaning.
-    fn literal_two() -> Self
-        ensures value { result ≡ real.two };
-
-    fn literal_half() -> Self
-        ensures value { result ≡ real.half };
-
-    fn literal_minus_two() -> Self
-        ensures value { result ≡ real.minus_two };
-
     fn div(self, other: Self) -> Self
         ensures value { result ≡ real.div self other };
 

@@ -26,7 +26,7 @@ pub(crate) fn reflection_axis_mut<T: Scalar>(column: &mut [T]) -> Reported<T>
     let first = column[0];
     let (modulus, sign) = first.split_sign();
     let signed_norm = sign.scale(norm);
-    let factor = squared.add(modulus.mul(norm)).mul(T::Real::literal_two());
+    let factor = squared.add(modulus.mul(norm)).mul(T::Real::TWO);
     column[0] = first.add(signed_norm);
     if factor.is_zero() {
         Reported {

@@ -11,7 +11,7 @@ pub(crate) fn reflect_with_sign<T: Scalar>(axis: &[T], column: &mut [T], sign: T
     requires { length axis.now ≡ length column.old }
     ensures { column.new ≡ reflected (kind T.ops T.Real.ops T.Real.real) axis.now sign column.old }
 {
-    let minus_two = sign.scale(T::Real::literal_minus_two());
+    let minus_two = sign.scale(T::Real::MINUS_TWO);
     let factor = dotc(axis, column).sub(T::zero()).mul(minus_two);
     axpy(column, factor, axis, sign);
 }

@@ -26,7 +26,7 @@ fn update<T: Scalar>(t: &mut [T], n: usize, k: usize, axis: &[T], p: &mut [T])
         (updated (kind T.ops T.Real.ops T.Real.real) axis.now
         (lower n k (n - k) t.old)) t.old }
 {
-    let two = T::from_real(T::Real::literal_two());
+    let two = T::from_real(T::Real::TWO);
     hegemv(t, n, k, two, axis, p);
     let dot = dotc(axis, p);
     let minus_one = T::one().neg();

@@ -10,7 +10,7 @@ returns g c =
     let all : c.args.k + (c.args.n - c.args.k) ≡ c.args.n = omega arith in
     let held : (c.args.n - c.args.k) * c.args.n ≤ length c.args.t.now = omega arith in
     let is_two : c.from_real-two.result ≡ two K =
-    c.from_real-two.ensures.value ∙ ap K.ops.embed c.literal_two.ensures.value in
+    c.from_real-two.ensures.value ∙ ap K.ops.embed (c.TWO.ensures ∙ g.met.T.Real.RealScalar.two_is) in
     let is_less : c.neg-minus_one.result ≡ minus_one K = c.neg-minus_one.ensures.value ∙ ap K.ops.neg c.one.ensures.value in
     let factor = c.mul.ensures.value ∙ ap (λ d. K.ops.mul d c.from_real-two.result) c.dotc-dot.ensures in
     three_updates_put K c.args.n c.args.k (c.args.n - c.args.k) c.args.t.now c.hegerc.new.t c.hegerc-2.new.t
