@@ -71,26 +71,21 @@ fn unlike_from<F: Compared>(words: u32, seed: u64) -> usize
     n
 }
 
-fn main(rt: HostRuntime) -> io::Result<()> {
+fn compare<F: Compared>(rt: HostRuntime, format: &str, hard_cases: &[u64]) -> io::Result<()> {
     let words = 100_000;
-    let doubles = unlike_in::<f64>(&table::DOUBLES);
-    let doubles_run = unlike_from::<f64>(words, 0x9E37_79B9_7F4A_7C15);
+    let hard = unlike_in::<F>(hard_cases);
+    let seeded = unlike_from::<F>(words, 0x9E37_79B9_7F4A_7C15);
     println!(rt;
-        "binary64: {} hard cases compared, {doubles} different",
-        table::DOUBLES.len()
+        "{format}: {} hard cases compared, {hard} different",
+        hard_cases.len()
     )?;
     println!(rt;
-        "binary64: {} seeded numbers compared, {doubles_run} different",
-        3 * words
-    )?;
-    let singles = unlike_in::<f32>(&table::SINGLES);
-    let singles_run = unlike_from::<f32>(words, 0x9E37_79B9_7F4A_7C15);
-    println!(rt;
-        "binary32: {} hard cases compared, {singles} different",
-        table::SINGLES.len()
-    )?;
-    println!(rt;
-        "binary32: {} seeded numbers compared, {singles_run} different",
+        "{format}: {} seeded numbers compared, {seeded} different",
         3 * words
     )
+}
+
+fn main(rt: HostRuntime) -> io::Result<()> {
+    compare::<f64>(rt, "binary64", &table::DOUBLES)?;
+    compare::<f32>(rt, "binary32", &table::SINGLES)
 }
