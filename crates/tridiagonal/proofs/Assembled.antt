@@ -1,7 +1,10 @@
 -- The matrix Q, one entry or one column on.
-use Rattle.std.proofs.Common.{◌≡◌, ℕ, zero, suc, ◌+◌, ◌-◌, ◌*◌, ◌<◌, ◌≤◌, cond, eqb, List, [], ◌∷◌, ◌++◌, length, get_or, take, drop, set, sym, refl, ap, ◌∙◌, append_assoc, zero-mul, add-one, arith, length-drop, length-take-le, drop-drop, take-add}
+use Rattle.std.proofs.Common.{◌≡◌, ℕ, zero, suc, ◌+◌, ◌-◌, ◌*◌, ◌/◌, ◌%◌, ◌<◌, ◌≤◌, cond, eqb, List, [], ◌∷◌, ◌++◌, length, get_or, take, drop, set, sym, refl, ap, ◌∙◌, ⊎_elim, append_assoc, zero-mul, suc-mul, zero-add, add-zero, add-one, arith, length-append, length-drop, length-take-le, drop-drop, take-add}
 use borrow.Rule.Slice.PartMut.{put_mid}
-use Rattle.std.proofs.lemmas.List.{drop-take, drop_more, drop_all, take_rest}
+use Rattle.std.proofs.lemmas.List.{drop-take, drop_more, drop_all, take_rest, take_more, take_more_set, get_or-append_right}
+use Rattle.std.proofs.lemmas.Bool.{cases_lt}
+use Rattle.std.proofs.Math.ListN.{get_or-append}
+use Rattle.std.proofs.Math.Nat.{mod-eq_of_lt, mod-eq-sub-mod, div-eq_of_lt, add-div_right}
 use Rattle.std.proofs.lemmas.Slice.{take-put_mid, drop-put_mid}
 use Rattle.tridiagonal.specs.Assemble.{unit_from, identity_from, reflected_columns, reflected_from, assembled_from, matrix_q}
 use Rattle.tridiagonal.specs.Blas.{dotc_of}
@@ -10,7 +13,6 @@ use Rattle.tridiagonal.specs.Tables.{lower}
 use Rattle.tridiagonal.proofs.Columns.{column_next, lower_more}
 use Rattle.tridiagonal.proofs.Lent.{end_written}
 use Rattle.tridiagonal.proofs.Products.{length_axpy}
-use Rattle.tridiagonal.proofs.Writes.{write_out}
 
 module _ {C R : Type 0} (K : Kind C R) where
   unit_cons : (j i m : ℕ) → unit_from K j i (suc m) ≡ cond (eqb i j) K.ops.one K.ops.zero ∷ unit_from K j (suc i) m
@@ -25,35 +27,67 @@ module _ {C R : Type 0} (K : Kind C R) where
   length_unit j i zero = ap length (unit_none j i)
   length_unit j i (suc m) = ap length (unit_cons j i m) ∙ ap suc (length_unit j (suc i) m)
 
-  pub unit_more : (j i n : ℕ) (ys : List C) (v : C) → i < n → i < length ys → v ≡ cond (eqb i j) K.ops.one K.ops.zero →
-      take (i + 1) (set ys i v) ++ unit_from K j (i + 1) (n - (i + 1)) ≡ take i ys ++ unit_from K j i (n - i)
-  unit_more j i n ys v h within is =
-      let count : n - i ≡ suc (n - (i + 1)) = omega arith in
-      write_out (unit_from K j i (n - i)) (unit_from K j (i + 1) (n - (i + 1))) ys i v within
-      (ap (unit_from K j i) count ∙ unit_cons j i (n - (i + 1))
-      ∙ ap (λ (k : ℕ). cond (eqb i j) K.ops.one K.ops.zero ∷ unit_from K j k (n - (i + 1))) (sym (add-one i))
-      ∙ ap (λ (w : C). w ∷ unit_from K j (i + 1) (n - (i + 1))) (sym is))
+  unit_at : (j i m k : ℕ) (d : C) → k < m → get_or (unit_from K j i m) k d ≡ cond (eqb (i + k) j) K.ops.one K.ops.zero
+  unit_at j i zero k d h = let no : ⊥ = omega arith in absurd no
+  unit_at j i (suc m) zero d h =
+      cc (unit_cons j i m, add-zero i)
+  unit_at j i (suc m) (suc k) d h =
+      let less : k < m = omega arith in
+      let on : suc i + k ≡ i + suc k = omega arith in
+      cc (unit_cons j i m, unit_at j (suc i) m k d less)
 
   identity_cons : (n j m : ℕ) → identity_from K n j (suc m) ≡ unit_from K j 0 n ++ identity_from K n (suc j) m
   unfolding identity_from
   identity_cons n j m = refl
 
-  pub identity_none : (n j : ℕ) → identity_from K n j 0 ≡ []
+  identity_none : (n j : ℕ) → identity_from K n j 0 ≡ []
   unfolding identity_from
   identity_none n j = refl
 
-  pub identity_more : (n j b e : ℕ) (q u : List C) → j < n → e ≡ b + n → e ≤ length q →
-      u ≡ put_mid b (b + n - b) q (unit_from K j 0 n) →
-      take e u ++ identity_from K n (j + 1) (n - (j + 1)) ≡ take b q ++ identity_from K n j (n - j)
-  identity_more n j b e q u h next held write =
-      let count : n - j ≡ suc (n - (j + 1)) = omega arith in
-      let start : b ≤ length q = omega arith in
-      let end : e ≡ b + length (unit_from K j 0 n) = let l = length_unit j 0 n in omega arith in
-      ap (λ (l : List C). take e l ++ identity_from K n (j + 1) (n - (j + 1))) write
-      ∙ ap (λ (l : List C). l ++ identity_from K n (j + 1) (n - (j + 1))) (take-put_mid b (b + n - b) q (unit_from K j 0 n) e end start)
-      ∙ append_assoc (take b q) (unit_from K j 0 n) (identity_from K n (j + 1) (n - (j + 1)))
-      ∙ ap (λ (k : ℕ). take b q ++ (unit_from K j 0 n ++ identity_from K n k (n - (j + 1)))) (add-one j)
-      ∙ ap (λ (l : List C). take b q ++ l) (sym (ap (identity_from K n j) count ∙ identity_cons n j (n - (j + 1))))
+  pub length_identity : (n j m : ℕ) → length (identity_from K n j m) ≡ m * n
+  length_identity n j zero = ap length (identity_none n j) ∙ sym (zero-mul n)
+  length_identity n j (suc m) =
+      let u = length_unit j 0 n in let r = length_identity n (suc j) m in let more = suc-mul m n in
+      ap length (identity_cons n j m) ∙ length-append (unit_from K j 0 n) (identity_from K n (suc j) m) ∙ omega arith
+
+  identity_at : (n j m k : ℕ) (d : C) → 0 < n → k < m * n →
+      get_or (identity_from K n j m) k d ≡ cond (eqb (k % n) (j + k / n)) K.ops.one K.ops.zero
+  identity_at n j zero k d some h = let z = zero-mul n in let no : ⊥ = omega arith in absurd no
+  identity_at n j (suc m) k d some h =
+      let long = length_unit j 0 n in
+      let more = suc-mul m n in
+      ⊎_elim
+      (λ (low : k < n).
+      let here : k < length (unit_from K j 0 n) = omega arith in
+      let none : k / n ≡ 0 = div-eq_of_lt low in
+      let at : j ≡ j + k / n = omega arith in
+      cc (
+        identity_cons n j m,
+        get_or-append (unit_from K j 0 n) (identity_from K n (suc j) m) d k here,
+        unit_at j 0 n k d low,
+        zero-add k,
+        mod-eq_of_lt low,
+      ))
+      (λ (high : n ≤ k).
+      let rest : k - n < m * n = omega arith in
+      let whole : k ≡ k - n + n = omega arith in
+      let one_more : k / n ≡ (k - n) / n + 1 = ap (λ (i : ℕ). i / n) whole ∙ add-div_right (k - n) some in
+      let at : suc j + (k - n) / n ≡ j + k / n = omega arith in
+      cc (
+        identity_cons n j m,
+        get_or-append_right (unit_from K j 0 n) (identity_from K n (suc j) m) n k d long high,
+        identity_at n (suc j) m (k - n) d some rest,
+        mod-eq-sub-mod high,
+      ))
+      (cases_lt k n)
+
+  -- The first k entries are written, and now the next.
+  pub identity_more : (n k : ℕ) (q : List C) (v : C) → 0 < n → k < n * n → k < length q →
+      v ≡ cond (eqb (k % n) (k / n)) K.ops.one K.ops.zero → take k q ≡ take k (identity_from K n 0 n) →
+      take (k + 1) (set q k v) ≡ take (k + 1) (identity_from K n 0 n)
+  identity_more n k q v some h within is so_far =
+      let there : k < length (identity_from K n 0 n) = let long = length_identity n 0 n in omega arith in
+      cc (identity_at n 0 n k v some h, zero-add (k / n), take_more_set q k v within, take_more (identity_from K n 0 n) k v there)
 
   length_reflected : (axis ys : List C) (sign : C) → length axis ≡ length ys → length (reflected K axis sign ys) ≡ length ys
   unfolding reflected
@@ -85,19 +119,17 @@ module _ {C R : Type 0} (K : Kind C R) where
         let end : e ≡ b + r + length c = omega arith in
         let over : b + r + (b + n - (b + r)) ≤ e = omega arith in
         let part : length c ≡ b + n - (b + r) = omega arith in
-        let front : take e u ≡ (take b q ++ take r (drop b q)) ++ c =
-        ap (take e) write ∙ take-put_mid (b + r) (b + n - (b + r)) q c e end start ∙ ap (λ (l : List C). l ++ c) (take-add b r q) in
-        let back : drop e u ≡ drop n (drop b q) =
-        ap (drop e) write ∙ drop-put_mid (b + r) (b + n - (b + r)) q c e over start part
-        ∙ ap (λ (i : ℕ). drop i q) next ∙ sym (drop-drop n b q) in
-        ap (λ (l : List C). l ++ reflected_columns K n r axis sign (m - (j + 1)) (drop e u)) front
-        ∙ ap (λ (l : List C). ((take b q ++ take r (drop b q)) ++ c) ++ reflected_columns K n r axis sign (m - (j + 1)) l) back
-        ∙ (simp append_assoc)
-        ∙ ap (λ (l : List C). take b q ++ (take r (drop b q) ++
-        (reflected K axis sign (take (n - r) l) ++ reflected_columns K n r axis sign (m - (j + 1)) (drop n (drop b q)))))
-        (sym (drop-drop r b q))
-        ∙ ap (λ (l : List C). take b q ++ l)
-        (sym (ap (λ (k : ℕ). reflected_columns K n r axis sign k (drop b q)) count ∙ reflected_cons (m - (j + 1)) (drop b q)))
+        let rest = reflected_columns K n r axis sign (m - (j + 1)) (drop n (drop b q)) in
+        let grouped : ((take b q ++ take r (drop b q)) ++ c) ++ rest ≡ take b q ++ (take r (drop b q) ++ (c ++ rest)) = simp append_assoc in
+        cc (
+          take-put_mid (b + r) (b + n - (b + r)) q c e end start,
+          drop-put_mid (b + r) (b + n - (b + r)) q c e over start part,
+          take-add b r q,
+          drop-drop n b q,
+          drop-drop r b q,
+          grouped,
+          reflected_cons (m - (j + 1)) (drop b q),
+        )
 
   assembled_cons : (n i : ℕ) (c : List C) (cs : List (List C)) (s : C) (signs : List C) →
       assembled_from K n i (c ∷ cs) (s ∷ signs) ≡ reflected_from K n i (drop 1 c) (K.ops.sign s) (assembled_from K n (suc i) cs signs)
@@ -126,28 +158,17 @@ module _ {C R : Type 0} (K : Kind C R) where
       let one : 0 < n - p = omega arith in
       let count : n - p - 1 ≡ n - (p + 1) = omega arith in
       let wide : n - p ≡ 1 + (n - (p + 1)) = omega arith in
-      let c = take (n - p) (drop (p * n + p) T) in
       let place : p * n + p + 1 ≡ p * n + (p + 1) = omega arith in
-      let below : drop 1 c ≡ axis =
-      ap (λ (m : ℕ). drop 1 (take m (drop (p * n + p) T))) wide ∙ drop-take 1 (n - (p + 1)) (drop (p * n + p) T)
-      ∙ ap (take (n - (p + 1))) (drop-drop 1 (p * n + p) T ∙ ap (λ (m : ℕ). drop m T) place) ∙ sym is_axis in
+      let c = take (n - p) (drop (p * n + p) T) in
       let cs = lower n (p + 1) (n - (p + 1)) (drop ((p + 1) * n) T) in
+      let below : drop 1 c ≡ axis =
+      cc (drop-take 1 (n - (p + 1)) (drop (p * n + p) T), drop-drop 1 (p * n + p) T) in
       let columns : lower n p (n - p) (drop (p * n) T) ≡ c ∷ cs =
-      lower_more n p (n - p) (p * n) ((p + 1) * n) T all one (column_next p n)
-      ∙ ap (λ (m : ℕ). c ∷ lower n (p + 1) m (drop ((p + 1) * n) T)) count in
-      let left : drop p signs ≡ s ∷ drop (p + 1) signs =
-      drop_more signs p s has ∙ ap (λ (z : C). z ∷ drop (p + 1) signs) (sym is_s) in
-      let last : assembled_from K n (suc p) cs (drop (p + 1) signs) ≡ q =
-      ap (λ (m : ℕ). assembled_from K n m cs (drop (p + 1) signs)) (sym (add-one p)) ∙ sym is_q in
-      is_u ∙ end_written (p * n) q y ∙ ap (λ (l : List C). take (p * n) q ++ l) is_y
-      ∙ ap (λ (l : List C). take (p * n) q ++ reflected_columns K n (p + 1) axis sign (n - p) l) (is_x ∙ take_rest q (p * n))
-      ∙ ap (λ (m : ℕ). take (p * n) q ++ reflected_columns K n m axis sign (n - p) (drop (p * n) q)) (add-one p)
-      ∙ ap (λ (l : List C). take (p * n) q ++ reflected_columns K n (suc p) l sign (n - p) (drop (p * n) q)) (sym below)
-      ∙ ap (λ (z : C). take (p * n) q ++ reflected_columns K n (suc p) (drop 1 c) z (n - p) (drop (p * n) q)) is_sign
-      ∙ ap (reflected_from K n p (drop 1 c) (K.ops.sign s)) (sym last)
-      ∙ sym (assembled_cons n p c cs s (drop (p + 1) signs))
-      ∙ ap (λ (l : List C). assembled_from K n p (c ∷ cs) l) (sym left)
-      ∙ ap (λ (l : List (List C)). assembled_from K n p l (drop p signs)) (sym columns)
+      cc (lower_more n p (n - p) (p * n) ((p + 1) * n) T all one (column_next p n), count) in
+      let left : drop p signs ≡ s ∷ drop (p + 1) signs = cc (drop_more signs p s has) in
+      let last : assembled_from K n (suc p) cs (drop (p + 1) signs) ≡ q = cc (add-one p) in
+      let lent : x ≡ drop (p * n) q = cc (take_rest q (p * n)) in
+      cc (end_written (p * n) q y, lent, below, columns, left, last, add-one p, assembled_cons n p c cs s (drop (p + 1) signs))
 
   -- With no column left it is Q.
   pub assembled_all : (n i : ℕ) (T signs : List C) → i ≡ 0 →
@@ -155,6 +176,4 @@ module _ {C R : Type 0} (K : Kind C R) where
   unfolding matrix_q
   assembled_all n i T signs e =
       let whole : n - 0 ≡ n = omega arith in
-      ap (λ (m : ℕ). assembled_from K n m (lower n m (n - m) (drop (m * n) T)) (drop m signs)) e
-      ∙ ap (λ (m : ℕ). assembled_from K n 0 (lower n 0 m (drop (0 * n) T)) signs) whole
-      ∙ ap (λ (m : ℕ). assembled_from K n 0 (lower n 0 n (drop m T)) signs) (zero-mul n)
+      cc (whole, zero-mul n)

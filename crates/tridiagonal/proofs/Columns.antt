@@ -37,13 +37,8 @@ module _ {C : Type 0} where
       lower n k m (drop b t) ≡ take (n - k) (drop (b + k) t) ∷ lower n (k + 1) (m - 1) (drop e t)
   lower_more n k m b e t all some next =
       let count : m ≡ suc (m - 1) = omega arith in
-      let wide : suc (m - 1) ≡ n - k = omega arith in
-      ap (λ (i : ℕ). lower n k i (drop b t)) count ∙ lower_cons n k (m - 1) (drop b t)
-      ∙ ap (λ (i : ℕ). take i (drop k (drop b t)) ∷ lower n (suc k) (m - 1) (drop n (drop b t))) wide
-      ∙ ap (λ (l : List C). take (n - k) l ∷ lower n (suc k) (m - 1) (drop n (drop b t))) (drop-drop k b t)
-      ∙ ap (λ (l : List C). take (n - k) (drop (b + k) t) ∷ lower n (suc k) (m - 1) l)
-      (drop-drop n b t ∙ ap (λ (i : ℕ). drop i t) (sym next))
-      ∙ ap (λ (i : ℕ). take (n - k) (drop (b + k) t) ∷ lower n i (m - 1) (drop e t)) (sym (add-one k))
+      let wide : m ≡ n - k = omega arith in
+      cc (lower_cons n k (m - 1) (drop b t), drop-drop k b t, drop-drop n b t, add-one k)
 
   -- The first lower column, of what begins at b, is written in place: the others are left to write.
   pub put_more : (n k m b e : ℕ) (t c : List C) (cs : List (List C)) → k + m ≡ n → 0 < m → e ≡ b + n → e ≤ length t → length c ≡ m →
@@ -55,15 +50,11 @@ module _ {C : Type 0} where
       let end : e ≡ b + k + length c = omega arith in
       let over : b + k + (e - (b + k)) ≤ e = omega arith in
       let part : length c ≡ e - (b + k) = omega arith in
-      let front = take-put_mid (b + k) (e - (b + k)) t c e end start ∙ ap (λ (l : List C). l ++ c) (take-add b k t) in
+      let front = take-put_mid (b + k) (e - (b + k)) t c e end start in
       let back = drop-put_mid (b + k) (e - (b + k)) t c e over start part in
-      ap (λ (l : List C). l ++ put n (k + 1) (m - 1) cs (drop e (put_mid (b + k) (e - (b + k)) t c))) front
-      ∙ ap (λ (l : List C). (take b t ++ take k (drop b t) ++ c) ++ put n (k + 1) (m - 1) cs l)
-      (back ∙ ap (λ (i : ℕ). drop i t) next ∙ sym (drop-drop n b t))
-      ∙ ap (λ (i : ℕ). (take b t ++ take k (drop b t) ++ c) ++ put n i (m - 1) cs (drop n (drop b t))) (add-one k)
-      ∙ (simp append_assoc)
-      ∙ ap (λ (l : List C). take b t ++ l) (sym (put_cons n k (m - 1) c cs (drop b t)))
-      ∙ ap (λ (i : ℕ). take b t ++ put n k i (c ∷ cs) (drop b t)) (sym count)
+      let rest = put n (suc k) (m - 1) cs (drop n (drop b t)) in
+      let grouped : ((take b t ++ take k (drop b t)) ++ c) ++ rest ≡ take b t ++ (take k (drop b t) ++ (c ++ rest)) = simp append_assoc in
+      cc (front, back, take-add b k t, drop-drop n b t, put_cons n k (m - 1) c cs (drop b t), add-one k, grouped)
 
   -- m columns, of m entries and then of one less each
   abbrev pub Shaped : ℕ → List (List C) → Type 0
@@ -92,15 +83,16 @@ module _ {C : Type 0} where
       let start : k ≤ length t = omega arith in
       let rest = put n (suc k) m cs (drop n t) in
       let front = length-take-le k t start in
-      let head : take (suc m) (drop k (take k t ++ (c ++ rest))) ≡ c =
-      ap (take (suc m)) (drop_at (take k t) (c ++ rest) k front) ∙ take_at c rest (suc m) shape.0 in
       let both : length (take k t ++ c) ≡ n = length-append (take k t) c ∙ (let e = shape.0 in omega arith) in
-      let tail : drop n (take k t ++ (c ++ rest)) ≡ rest =
-      ap (drop n) (sym (append_assoc (take k t) c rest)) ∙ drop_at (take k t ++ c) rest n both in
-      ap (lower n k (suc m)) (put_cons n k m c cs t) ∙ lower_cons n k m (take k t ++ (c ++ rest))
-      ∙ ap (λ (l : List C). l ∷ lower n (suc k) m (drop n (take k t ++ (c ++ rest)))) head
-      ∙ ap (λ (l : List C). c ∷ lower n (suc k) m l) tail
-      ∙ ap (λ (l : List (List C)). c ∷ l) (lower_put n (suc k) m cs (drop n t) on left shape.1)
+      cc (
+        put_cons n k m c cs t,
+        lower_cons n k m (take k t ++ (c ++ rest)),
+        drop_at (take k t) (c ++ rest) k front,
+        take_at c rest (suc m) shape.0,
+        append_assoc (take k t) c rest,
+        drop_at (take k t ++ c) rest n both,
+        lower_put n (suc k) m cs (drop n t) on left shape.1,
+      )
 
   -- Only what is put last stays.
   pub put_put : (n k m : ℕ) (cs ds : List (List C)) (t : List C) → k + m ≡ n → m * n ≤ length t → Shaped m cs → Shaped m ds →
@@ -116,14 +108,15 @@ module _ {C : Type 0} where
       let rest = put n (suc k) m cs (drop n t) in
       let front = length-take-le k t start in
       let both : length (take k t ++ c) ≡ n = length-append (take k t) c ∙ (let e = shape.0 in omega arith) in
-      let head : take k (take k t ++ (c ++ rest)) ≡ take k t = take_at (take k t) (c ++ rest) k front in
-      let tail : drop n (take k t ++ (c ++ rest)) ≡ rest =
-      ap (drop n) (sym (append_assoc (take k t) c rest)) ∙ drop_at (take k t ++ c) rest n both in
-      ap (put n k (suc m) (d ∷ ds)) (put_cons n k m c cs t) ∙ put_cons n k m d ds (take k t ++ (c ++ rest))
-      ∙ ap (λ (l : List C). l ++ (d ++ put n (suc k) m ds (drop n (take k t ++ (c ++ rest))))) head
-      ∙ ap (λ (l : List C). take k t ++ (d ++ put n (suc k) m ds l)) tail
-      ∙ ap (λ (l : List C). take k t ++ (d ++ l)) (put_put n (suc k) m cs ds (drop n t) on left shape.1 shape'.1)
-      ∙ sym (put_cons n k m d ds t)
+      cc (
+        put_cons n k m c cs t,
+        put_cons n k m d ds (take k t ++ (c ++ rest)),
+        put_cons n k m d ds t,
+        take_at (take k t) (c ++ rest) k front,
+        append_assoc (take k t) c rest,
+        drop_at (take k t ++ c) rest n both,
+        put_put n (suc k) m cs ds (drop n t) on left shape.1 shape'.1,
+      )
 
 -- i columns of n rows, and the n - i others
 pub columns_split : (i n : ℕ) → i ≤ n → i * n + (n - i) * n ≡ n * n

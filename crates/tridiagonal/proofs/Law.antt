@@ -1,8 +1,7 @@
 -- Only the lower columns and the largest size decide what a reduction leaves.
-use Rattle.std.proofs.Common.{◌≡◌, ℕ, zero, suc, ◌+◌, ◌-◌, ◌*◌, ◌<◌, ◌≤◌, List, ◌∷◌, length, get_or, take, drop, Some, None, Option, sym, refl, ap, ◌∙◌, suc-mul, zero-mul, arith, length-drop, length-take-le, get_or-drop, get_or-take, drop-drop}
+use Rattle.std.proofs.Common.{◌≡◌, ℕ, zero, suc, ◌+◌, ◌-◌, ◌*◌, ◌<◌, ◌≤◌, List, length, get_or, take, drop, Some, None, Option, sym, refl, ap, ◌∙◌, suc-mul, zero-mul, arith, length-drop, length-take-le, get_or-drop, get_or-take, drop-drop}
 use Rattle.std.proofs.lemmas.List.{same_lists}
 use Rattle.fault.specs.Refusals.{Refusal}
-use Rattle.tridiagonal.specs.Assemble.{matrix_q}
 use Rattle.tridiagonal.specs.Checks.{refusal_for}
 use Rattle.tridiagonal.specs.Householder.{Kind}
 use Rattle.tridiagonal.specs.Outcome.{Outcome, Reduced, Refused, reduce_outcome, unless_refused}
@@ -22,14 +21,16 @@ module _ {C : Type 0} (n : ℕ) (t u : List C) (t_long : length t ≡ n * n) (u_
       let d = length-drop (k * n) x in let e = length-drop k (drop (k * n) x) in
       length-take-le (suc m) (drop k (drop (k * n) x)) (omega arith)
 
-  entry_of : (k m i : ℕ) (x : List C) (d : C) → i < suc m → get_or (take (suc m) (drop k (drop (k * n) x))) i d ≡ get_or x (k * n + (k + i)) d
+  entry_of : (k m i : ℕ) (x : List C) (d : C) → i < suc m →
+      get_or (take (suc m) (drop k (drop (k * n) x))) i d ≡ get_or x (k * n + (k + i)) d
   entry_of k m i x d h =
       get_or-take (suc m) (drop k (drop (k * n) x)) i d h ∙ get_or-drop k (drop (k * n) x) i d ∙ get_or-drop (k * n) x (k + i) d
 
   column_same : (k m : ℕ) → k + suc m ≡ n → take (suc m) (drop k (drop (k * n) t)) ≡ take (suc m) (drop k (drop (k * n) u))
   column_same k m all =
       let long = column_long k m t all t_long in
-      same_lists (take (suc m) (drop k (drop (k * n) t))) (take (suc m) (drop k (drop (k * n) u))) (long ∙ sym (column_long k m u all u_long))
+      same_lists (take (suc m) (drop k (drop (k * n) t))) (take (suc m) (drop k (drop (k * n) u)))
+      (long ∙ sym (column_long k m u all u_long))
       (λ i d h.
       let in_column : i < suc m = omega arith in
       let below : k ≤ k + i = omega arith in
@@ -40,18 +41,23 @@ module _ {C : Type 0} (n : ℕ) (t u : List C) (t_long : length t ≡ n * n) (u_
   columns_same k zero all = lower_none n k (drop (k * n) t) ∙ sym (lower_none n k (drop (k * n) u))
   columns_same k (suc m) all =
       let on : suc k + m ≡ n = omega arith in
-      let past : (x : List C) → drop n (drop (k * n) x) ≡ drop (suc k * n) x =
-      λ x. drop-drop n (k * n) x ∙ ap (λ (i : ℕ). drop i x) (sym (suc-mul k n)) in
-      lower_cons n k m (drop (k * n) t)
-      ∙ ap (λ (l : List C). l ∷ lower n (suc k) m (drop n (drop (k * n) t))) (column_same k m all)
-      ∙ ap (λ (l : List (List C)). take (suc m) (drop k (drop (k * n) u)) ∷ l)
-      (ap (lower n (suc k) m) (past t) ∙ columns_same (suc k) m on ∙ sym (ap (lower n (suc k) m) (past u)))
-      ∙ sym (lower_cons n k m (drop (k * n) u))
+      cc (
+        lower_cons n k m (drop (k * n) t),
+        lower_cons n k m (drop (k * n) u),
+        column_same k m all,
+        columns_same (suc k) m on,
+        suc-mul k n,
+        drop-drop n (k * n) t,
+        drop-drop n (k * n) u,
+      )
 
   pub lower_same : lower n 0 n t ≡ lower n 0 n u
   lower_same =
       let all : 0 + n ≡ n = omega arith in
-      ap (λ (i : ℕ). lower n 0 n (drop i t)) (sym (zero-mul n)) ∙ columns_same 0 n all ∙ ap (λ (i : ℕ). lower n 0 n (drop i u)) (zero-mul n)
+      cc (columns_same 0 n all, zero-mul n)
+
+unless_none : {A : Type 0} (o : Option Refusal) (was made : A) → o ≡ None → unless_refused o was made ≡ made
+unless_none o was made e = ap (λ z. unless_refused z was made) e
 
 module _ {C R : Type 0} (K : Kind C R) where
   -- the lower columns of a reduced table
@@ -76,31 +82,27 @@ module _ {C R : Type 0} (K : Kind C R) where
       ReduceRun K m given answer left → answer ≡ Reduced n l → Form n l given left
   form_by n m l given left answer None e run is =
       let answered : Reduced m (largest_size K given.table) ≡ Reduced n l =
-      sym (run.answered ∙ ap (λ z. reduce_outcome z m (largest_size K given.table)) e) ∙ is in
+      sym (run.answer ∙ ap (λ z. reduce_outcome z m (largest_size K given.table)) e) ∙ is in
       let side : m ≡ n = cc in
       let largest : largest_size K given.table ≡ l = cc in
       let ok = accepted K m given.table (length given.values) (length given.offs) (length given.signs) (length given.scratch) e in
-      let long = ok.1.1.as_table in
+      let long = ok.as_table in
       record {
-        long = long ∙ ap (λ (k : ℕ). k * k) side;
-        values = run.values ∙ ap (λ z. unless_refused z given.values (values_of K m given.table)) e
-            ∙ ap (λ (r : R). reduced_values K m r (lower m 0 m given.table)) largest
-            ∙ ap (λ (k : ℕ). reduced_values K k l (lower k 0 k given.table)) side;
-        offs = run.offs ∙ ap (λ z. unless_refused z given.offs (offs_of K m given.table)) e
-            ∙ ap (λ (r : R). reduced_offs K m r (lower m 0 m given.table)) largest
-            ∙ ap (λ (k : ℕ). reduced_offs K k l (lower k 0 k given.table)) side;
-        signs = run.signs ∙ ap (λ z. unless_refused z given.signs (signs_of K m given.table)) e
-            ∙ ap (λ (r : R). reduced_signs K m r (lower m 0 m given.table)) largest
-            ∙ ap (λ (k : ℕ). reduced_signs K k l (lower k 0 k given.table)) side;
-        columns = ap (λ (k : ℕ). lower k 0 k left.table) (sym side)
-            ∙ ap (lower m 0 m) (run.table ∙ ap (λ z. unless_refused z given.table (reduced_table K m given.table)) e)
-            ∙ lower_reduced m given.table long
-            ∙ ap (λ (r : R). reduced_lower K m r (lower m 0 m given.table)) largest
-            ∙ ap (λ (k : ℕ). reduced_lower K k l (lower k 0 k given.table)) side;
+        long = cc (long, side);
+        values = cc (run.values, unless_none _ given.values (values_of K m given.table) e, largest, side);
+        offs = cc (run.offs, unless_none _ given.offs (offs_of K m given.table) e, largest, side);
+        signs = cc (run.signs, unless_none _ given.signs (signs_of K m given.table) e, largest, side);
+        columns = cc (
+          run.table,
+          unless_none _ given.table (reduced_table K m given.table) e,
+          lower_reduced m given.table long,
+          largest,
+          side,
+        );
       }
   form_by n m l given left answer (Some why) e run is =
-      let answered : Refused why ≡ Reduced n l = sym (run.answered ∙ ap (λ z. reduce_outcome z m (largest_size K given.table)) e) ∙ is in
-      let z : ◌≡◌ {A = ℕ} 0 1 = cc in let bad : ⊥ = omega arith in absurd bad
+      let answered : Refused why ≡ Reduced n l = sym (run.answer ∙ ap (λ z. reduce_outcome z m (largest_size K given.table)) e) ∙ is in
+      absurd (cc)
 
   pub only_lower : (n : ℕ) (given : Buffers C R) (answer : Outcome R) (left : Buffers C R) → ReduceRun K n given answer left →
       OnlyLower K (record { side = n; given = given; answer = answer; left = left })
@@ -108,29 +110,14 @@ module _ {C R : Type 0} (K : Kind C R) where
       let a = form_by n m l given left answer _ refl run is in
       let b = form_by n other.side l other.given other.left other.answer _ refl run' is' in
       let same = lower_same n given.table other.given.table a.long b.long alike in
-      let signs = a.signs ∙ ap (reduced_signs K n l) same ∙ sym b.signs in
-      let columns = a.columns ∙ ap (reduced_lower K n l) same ∙ sym b.columns in
       record {
-        values = a.values ∙ ap (reduced_values K n l) same ∙ sym b.values;
-        offs = a.offs ∙ ap (reduced_offs K n l) same ∙ sym b.offs;
-        signs = signs;
-        q = ap (λ (cs : List (List C)). matrix_q K n cs left.signs) columns ∙ ap (matrix_q K n (lower n 0 n other.left.table)) signs;
+        values = cc (a.values, b.values, same);
+        offs = cc (a.offs, b.offs, same);
+        signs = cc (a.signs, b.signs, same);
+        q = cc (a.columns, b.columns, a.signs, b.signs, same);
       }
 
-  -- A call that is refused is a run, and so is one that is not.
-  pub refused_run : (n : ℕ) (given : Buffers C R) (answer : Outcome R) (why : Refusal) →
-      refusal_for K n given.table given.values given.offs given.signs given.scratch ≡ Some why →
-      answer ≡ Refused why → ReduceRun K n given answer given
-  refused_run n given answer why e is =
-      record {
-        answered = is ∙ sym (ap (λ z. reduce_outcome z n (largest_size K given.table)) e);
-        table = sym (ap (λ z. unless_refused z given.table (reduced_table K n given.table)) e);
-        values = sym (ap (λ z. unless_refused z given.values (values_of K n given.table)) e);
-        offs = sym (ap (λ z. unless_refused z given.offs (offs_of K n given.table)) e);
-        signs = sym (ap (λ z. unless_refused z given.signs (signs_of K n given.table)) e);
-        scratch = rw e refl;
-      }
-
+  -- A call that is not refused is a run.
   pub accepted_run : (n : ℕ) (given : Buffers C R) (answer : Outcome R) (left : Buffers C R) →
       refusal_for K n given.table given.values given.offs given.signs given.scratch ≡ None →
       answer ≡ Reduced n (largest_size K given.table) → left.table ≡ reduced_table K n given.table →
@@ -138,10 +125,10 @@ module _ {C R : Type 0} (K : Kind C R) where
       length left.scratch ≡ length given.scratch → ReduceRun K n given answer left
   accepted_run n given answer left e is t v f s c =
       record {
-        answered = is ∙ sym (ap (λ z. reduce_outcome z n (largest_size K given.table)) e);
-        table = t ∙ sym (ap (λ z. unless_refused z given.table (reduced_table K n given.table)) e);
-        values = v ∙ sym (ap (λ z. unless_refused z given.values (values_of K n given.table)) e);
-        offs = f ∙ sym (ap (λ z. unless_refused z given.offs (offs_of K n given.table)) e);
-        signs = s ∙ sym (ap (λ z. unless_refused z given.signs (signs_of K n given.table)) e);
+        answer = is ∙ sym (ap (λ z. reduce_outcome z n (largest_size K given.table)) e);
+        table = t ∙ sym (unless_none _ given.table (reduced_table K n given.table) e);
+        values = v ∙ sym (unless_none _ given.values (values_of K n given.table) e);
+        offs = f ∙ sym (unless_none _ given.offs (offs_of K n given.table) e);
+        signs = s ∙ sym (unless_none _ given.signs (signs_of K n given.table) e);
         scratch = rw e c;
       }

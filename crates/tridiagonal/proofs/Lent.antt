@@ -32,5 +32,4 @@ module _ {C : Type 0} where
       let long = same_len_mid i (length xs - i) xs ys same in
       let within : i < length (put_mid i (length xs - i) xs ys) = omega arith in
       let start : i ≤ length xs = omega arith in
-      take_more_set (put_mid i (length xs - i) xs ys) i v within
-      ∙ ap (λ (l : List C). l ++ (v ∷ [])) (take_put i (length xs - i) xs ys start)
+      cc (take_more_set (put_mid i (length xs - i) xs ys) i v within, take_put i (length xs - i) xs ys start)

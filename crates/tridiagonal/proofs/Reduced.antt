@@ -1,5 +1,5 @@
 -- The reduction, one step on.
-use Rattle.std.proofs.Common.{◌≡◌, ℕ, suc, ◌+◌, ◌-◌, ◌*◌, ◌<◌, ◌≤◌, List, [], ◌∷◌, ◌++◌, length, take, drop, set, sym, refl, ap, ◌∙◌, append_assoc, suc-mul, add-one, arith, length-append, length-drop, take-append-drop, length-take-le, take_at, drop_at}
+use Rattle.std.proofs.Common.{◌≡◌, ℕ, suc, ◌+◌, ◌-◌, ◌*◌, ◌<◌, ◌≤◌, List, [], ◌∷◌, ◌++◌, length, take, drop, set, sym, refl, ap, ◌∙◌, append_assoc, suc-mul, zero-add, add-one, arith, length-append, length-drop, take-append-drop, length-take-le, take_at, drop_at}
 use borrow.Rule.Slice.PartMut.{put_mid}
 use Rattle.std.proofs.lemmas.List.{take_rest}
 use Rattle.tridiagonal.specs.Householder.{Kind, axis_norm}
@@ -66,11 +66,9 @@ module _ {C R : Type 0} (K : Kind C R) where
     cut : U ≡ (take b T ++ (take i (drop b T) ++ stepped_column K first)) ++ left
     cut =
         let count : n - i ≡ suc (n - i - 1) = omega arith in
-        write ∙ ap (λ (m : ℕ). take b T ++ put n i m (stepped_column K first ∷ stepped_rest K first others) (drop b T)) count
-        ∙ ap (λ (l : List C). take b T ++ l) (put_cons n i (n - i - 1) (stepped_column K first) (stepped_rest K first others) (drop b T))
-        ∙ ap (λ (m : ℕ). take b T ++ (take i (drop b T) ++ (stepped_column K first ++
-        put n m (n - i - 1) (stepped_rest K first others) (drop n (drop b T))))) (sym (add-one i))
-        ∙ sym (simp append_assoc)
+        let grouped : (take b T ++ (take i (drop b T) ++ stepped_column K first)) ++ left ≡
+        take b T ++ (take i (drop b T) ++ (stepped_column K first ++ left)) = simp append_assoc in
+        cc (write, put_cons n i (n - i - 1) (stepped_column K first) (stepped_rest K first others) (drop b T), add-one i, grouped)
 
     long_front : length (take b T ++ (take i (drop b T) ++ stepped_column K first)) ≡ e
     long_front =
@@ -92,8 +90,7 @@ module _ {C R : Type 0} (K : Kind C R) where
     before =
         let all : i + (n - i) ≡ n = omega arith in
         let one : 0 < n - i = omega arith in
-        lower_more n i (n - i) 0 n (drop b T) all one (omega arith)
-        ∙ ap (λ (m : ℕ). take (n - i) (drop m (drop b T)) ∷ others) (let z : 0 + i ≡ i = omega arith in z)
+        cc (lower_more n i (n - i) 0 n (drop b T) all one (omega arith), zero-add i)
 
     after : lower n (i + 1) (n - i - 1) (drop e U) ≡ stepped_rest K first others
     after =
@@ -106,25 +103,27 @@ module _ {C R : Type 0} (K : Kind C R) where
     reduced_more k =
         let count : n - i ≡ suc (n - i - 1) = omega arith in
         let Z = reduced_columns K k (stepped_rest K first others) in
-        ap (λ (l : List (List C)). take e U ++ put n (i + 1) (n - i - 1) (reduced_columns K k l) (drop e U)) after
-        ∙ ap (λ (l : List C). take e U ++ put n (i + 1) (n - i - 1) Z l) back
-        ∙ ap (λ (l : List C). take e U ++ l)
-        (put_put n (i + 1) (n - i - 1) (stepped_rest K first others) Z (drop n (drop b T)) all_rows rest_held shape
-        (shaped_reduced K k (n - i - 1) (stepped_rest K first others) shape))
-        ∙ ap (λ (l : List C). l ++ put n (i + 1) (n - i - 1) Z (drop n (drop b T))) front
-        ∙ (simp append_assoc)
-        ∙ ap (λ (m : ℕ). take b T ++ (take i (drop b T) ++ (stepped_column K first ++ put n m (n - i - 1) Z (drop n (drop b T))))) (add-one i)
-        ∙ ap (λ (l : List C). take b T ++ l) (sym (put_cons n i (n - i - 1) (stepped_column K first) Z (drop b T)))
-        ∙ ap (λ (m : ℕ). take b T ++ put n i m (stepped_column K first ∷ Z) (drop b T)) (sym count)
-        ∙ ap (λ (l : List (List C)). take b T ++ put n i (n - i) l (drop b T))
-        (sym (ap (reduced_columns K (suc k)) before ∙ reduced_cons k first others))
+        let put_over = put_put n (i + 1) (n - i - 1) (stepped_rest K first others) Z (drop n (drop b T)) all_rows rest_held shape
+        (shaped_reduced K k (n - i - 1) (stepped_rest K first others) shape) in
+        let rest = put n (i + 1) (n - i - 1) Z (drop n (drop b T)) in
+        let grouped : (take b T ++ (take i (drop b T) ++ stepped_column K first)) ++ rest ≡
+        take b T ++ (take i (drop b T) ++ (stepped_column K first ++ rest)) = simp append_assoc in
+        cc (
+          before,
+          after,
+          back,
+          front,
+          put_over,
+          grouped,
+          add-one i,
+          reduced_cons k first others,
+          put_cons n i (n - i - 1) (stepped_column K first) Z (drop b T),
+        )
 
     pub norms_more : (k : ℕ) (norm : C) → norm ≡ axis_norm K (drop 1 first) →
         norm ∷ reduced_norms K k (lower n (i + 1) (n - i - 1) (drop e U)) ≡ reduced_norms K (suc k) (lower n i (n - i) (drop b T))
     norms_more k norm is =
-        ap (λ (l : List (List C)). norm ∷ reduced_norms K k l) after
-        ∙ ap (λ (x : C). x ∷ reduced_norms K k (stepped_rest K first others)) is
-        ∙ sym (ap (reduced_norms K (suc k)) before ∙ norms_cons k first others)
+        cc (before, after, norms_cons k first others)
 
 -- The same, as the loop has it: the step was given the part of the table from b on, and left t there.
 module _ {C R : Type 0} (K : Kind C R) (n i b e k k' r : ℕ) (T t : List C) (some : i + 1 < n) (next : e ≡ b + n)
@@ -138,17 +137,13 @@ module _ {C R : Type 0} (K : Kind C R) (n i b e k k' r : ℕ) (T t : List C) (so
   write : after_step ≡ take b T ++ put n i (n - i) (stepped_column K (take (n - i) (drop i (drop b T))) ∷
       stepped_rest K (take (n - i) (drop i (drop b T))) (lower n (i + 1) (n - i - 1) (drop n (drop b T)))) (drop b T)
   write =
-      end_written b T t ∙ ap (λ (l : List C). take b T ++ l) made
-      ∙ ap (λ (l : List C). take b T ++ put n i (n - i) (stepped_column K (take (n - i) (drop i l)) ∷
-      stepped_rest K (take (n - i) (drop i l)) (lower n (i + 1) (n - i - 1) (drop n l))) l) (take_rest T b)
+      cc (end_written b T t, made, take_rest T b)
 
   pub table_step :
       take e after_step ++ put n (i + 1) r (reduced_columns K k (lower n (i + 1) r (drop e after_step))) (drop e after_step) ≡
       take b T ++ put n i (n - i) (reduced_columns K k' (lower n i (n - i) (drop b T))) (drop b T)
   table_step =
-      ap (λ (m : ℕ). take e after_step ++ put n (i + 1) m (reduced_columns K k (lower n (i + 1) m (drop e after_step))) (drop e after_step)) rest
-      ∙ reduced_more K n i b e T after_step some next held write k
-      ∙ ap (λ (m : ℕ). take b T ++ put n i (n - i) (reduced_columns K m (lower n i (n - i) (drop b T))) (drop b T)) (sym steps)
+      cc (rest, steps, reduced_more K n i b e T after_step some next held write k)
 
   pub norms_step : (signs axis : List C) (norm : C) → i < length signs →
       length axis ≡ length (take (length signs - i) (drop i signs)) →
@@ -156,22 +151,20 @@ module _ {C R : Type 0} (K : Kind C R) (n i b e k k' r : ℕ) (T t : List C) (so
       take (i + 1) (set (put_mid i (length signs - i) signs axis) i norm) ++ reduced_norms K k (lower n (i + 1) r (drop e after_step)) ≡
       take i signs ++ reduced_norms K k' (lower n i (n - i) (drop b T))
   norms_step signs axis norm within same is =
-      let is' = is ∙ ap (λ (l : List C). axis_norm K (drop 1 (take (n - i) (drop i l)))) (take_rest T b) in
-      ap (λ (m : ℕ). take (i + 1) (set (put_mid i (length signs - i) signs axis) i norm) ++
-      reduced_norms K k (lower n (i + 1) m (drop e after_step))) rest
-      ∙ ap (λ (l : List C). l ++ reduced_norms K k (lower n (i + 1) (n - i - 1) (drop e after_step)))
-      (first_of_part_set i signs axis norm within same)
-      ∙ append_assoc (take i signs) (norm ∷ []) (reduced_norms K k (lower n (i + 1) (n - i - 1) (drop e after_step)))
-      ∙ ap (λ (l : List C). take i signs ++ l) (norms_more K n i b e T after_step some next held write k norm is')
-      ∙ ap (λ (m : ℕ). take i signs ++ reduced_norms K m (lower n i (n - i) (drop b T))) (sym steps)
+      let is' : norm ≡ axis_norm K (drop 1 (take (n - i) (drop i (drop b T)))) = cc (is, take_rest T b) in
+      cc (
+        rest,
+        steps,
+        first_of_part_set i signs axis norm within same,
+        norms_more K n i b e T after_step some next held write k norm is',
+        append_assoc (take i signs) (norm ∷ []) (reduced_norms K k (lower n (i + 1) (n - i - 1) (drop e after_step))),
+      )
 
 -- At the end no step is left.
 module _ {C R : Type 0} (K : Kind C R) (n i b k m : ℕ) (none : k ≡ 0) (all : i + m ≡ n) (T : List C) where
   pub table_end : T ≡ take b T ++ put n i m (reduced_columns K k (lower n i m (drop b T))) (drop b T)
   table_end =
-      sym (take-append-drop b T) ∙ ap (λ (l : List C). take b T ++ l) (sym (put_lower n i m (drop b T) all))
-      ∙ ap (λ (l : List (List C)). take b T ++ put n i m l (drop b T)) (sym (reduced_none K (lower n i m (drop b T))))
-      ∙ ap (λ (j : ℕ). take b T ++ put n i m (reduced_columns K j (lower n i m (drop b T))) (drop b T)) (sym none)
+      cc (none, take-append-drop b T, put_lower n i m (drop b T) all, reduced_none K (lower n i m (drop b T)))
 
   pub norms_end : (signs : List C) → length signs ≤ i → signs ≡ take i signs ++ reduced_norms K k (lower n i m (drop b T))
   norms_end signs full =

@@ -14,7 +14,7 @@ module _ {C R : Type 0} (o : Ops C R) (a : C) where
       length (hegemv_from o a cs xs ps) ≡ m
   unfolding hegemv_from
   length_hegemv_from m [] xs ps s hx hp = hp
-  length_hegemv_from zero (c ∷ cs) xs ps s hx hp = let no = ap length s in let bad : ⊥ = omega arith in absurd bad
+  length_hegemv_from zero (c ∷ cs) xs ps s hx hp = absurd (cc)
   length_hegemv_from (suc m) (c ∷ cs) xs ps s hx hp =
       let x_less : length (drop 1 xs) ≡ m = let d = length-drop 1 xs in omega arith in
       let p_less : length (drop 1 ps) ≡ m = let d = length-drop 1 ps in omega arith in
@@ -26,7 +26,7 @@ module _ {C R : Type 0} (o : Ops C R) (a : C) where
   unfolding hegemv_of
   length_hegemv zero [] xs s hx = refl
   length_hegemv (suc m) [] xs s hx = absurd s
-  length_hegemv zero (c ∷ cs) xs s hx = let no = ap length s in let bad : ⊥ = omega arith in absurd bad
+  length_hegemv zero (c ∷ cs) xs s hx = absurd (cc)
   length_hegemv (suc m) (c ∷ cs) xs s hx =
       let x_less : length (drop 1 xs) ≡ m = let d = length-drop 1 xs in omega arith in
       let made : length (first_column o a c xs) ≡ suc m = length-map c (λ u. o.mul (o.mul (o.mul a (get_or xs 0 o.zero)) u) o.one) ∙ s.0 in
@@ -81,6 +81,6 @@ module _ {C R : Type 0} (K : Kind C R) where
   unfolding reduced_columns
   shaped_reduced zero m cs s = s
   shaped_reduced (suc k) m [] s = s
-  shaped_reduced (suc k) zero (c ∷ cs) s = let no = ap length s in let bad : ⊥ = omega arith in absurd bad
+  shaped_reduced (suc k) zero (c ∷ cs) s = absurd (cc)
   shaped_reduced (suc k) (suc m) (c ∷ cs) s =
       (length_stepped_column m c s.0, shaped_reduced k m (stepped_rest K c cs) (shaped_rest m c cs s.0 s.1))

@@ -1,5 +1,5 @@
 -- One step of the reduction, on a table that begins at the step's column.
-use Rattle.std.proofs.Common.{◌≡◌, ℕ, zero, suc, ◌+◌, ◌-◌, ◌*◌, ◌<◌, ◌≤◌, Bool, true, false, cond, List, ◌∷◌, ◌++◌, length, take, drop, sym, ap, ◌∙◌, ⊎_elim, append_assoc, add-one, arith, take-append-drop, take-take, drop-drop, take-add}
+use Rattle.std.proofs.Common.{◌≡◌, ℕ, zero, suc, ◌+◌, ◌-◌, ◌*◌, ◌<◌, ◌≤◌, Bool, true, false, cond, List, ◌∷◌, ◌++◌, length, take, drop, sym, ◌∙◌, ⊎_elim, append_assoc, add-one, arith, take-append-drop, take-take, drop-drop, take-add}
 use borrow.Rule.Slice.PartMut.{put_mid}
 use Rattle.std.proofs.lemmas.List.{drop-take, take_rest}
 use Rattle.std.proofs.lemmas.Slice.{take-put_mid, drop-put_mid, between-put_mid}
@@ -34,35 +34,31 @@ module _ {C R : Type 0} (K : Kind C R) where
       let s1 = shaped_hegerc o b m p axis cs (shaped_lower n k m t all held) as_p in
       let s2 = shaped_hegerc o b m axis p cs1 s1 as_axis in
       let s3 = shaped_hegerc o d m axis axis cs2 s2 as_axis in
-      let w2 : t2 ≡ put n k m cs2 t =
-      e2 ∙ ap (λ (l : List (List C)). put n k m (hegerc_of o b axis p l) t1) l1 ∙ ap (put n k m cs2) e1
-      ∙ put_put n k m cs1 cs2 t all held s1 s2 in
-      let m2 : lower n k m t2 ≡ cs2 = l2 ∙ ap (hegerc_of o b axis p) l1 in
-      let w3 : t3 ≡ put n k m cs3 t =
-      e3 ∙ ap (λ (l : List (List C)). put n k m (hegerc_of o d axis axis l) t2) m2 ∙ ap (put n k m cs3) w2
-      ∙ put_put n k m cs2 cs3 t all held s2 s3 in
-      w3 ∙ ap (λ (l : List (List C)). put n k m l t) (cc)
+      let w2 : t2 ≡ put n k m cs2 t = cc (e1, l1, e2, put_put n k m cs1 cs2 t all held s1 s2) in
+      let m2 : lower n k m t2 ≡ cs2 = cc (l1, l2) in
+      cc (e3, m2, w2, put_put n k m cs2 cs3 t all held s2 s3)
 
 -- A table's own lower columns put over it change nothing.
 pub put_lower : {C : Type 0} (n k m : ℕ) (t : List C) → k + m ≡ n → put n k m (lower n k m t) t ≡ t
 put_lower n k zero t all = put_none n k _ t
 put_lower {C} n k (suc m) t all =
     let on : suc k + m ≡ n = omega arith in
-    ap (λ (l : List (List C)). put n k (suc m) l t) (lower_cons n k m t)
-    ∙ put_cons n k m (take (suc m) (drop k t)) (lower n (suc k) m (drop n t)) t
-    ∙ ap (λ (l : List C). take k t ++ (take (suc m) (drop k t) ++ l)) (put_lower n (suc k) m (drop n t) on)
-    ∙ ap (λ (i : ℕ). take k t ++ (take (suc m) (drop k t) ++ drop i t)) (sym all)
-    ∙ ap (λ (l : List C). take k t ++ (take (suc m) (drop k t) ++ l)) (sym (drop-drop (suc m) k t))
-    ∙ ap (λ (l : List C). take k t ++ l) (take-append-drop (suc m) (drop k t))
-    ∙ take-append-drop k t
+    cc (
+      lower_cons n k m t,
+      put_cons n k m (take (suc m) (drop k t)) (lower n (suc k) m (drop n t)) t,
+      put_lower n (suc k) m (drop n t) on,
+      all,
+      drop-drop (suc m) k t,
+      take-append-drop (suc m) (drop k t),
+      take-append-drop k t,
+    )
 
 module _ {C R : Type 0} (K : Kind C R) (n i : ℕ) (t : List C) (some : i + 1 < n) (wide : n ≤ length t) where
   -- what the first lower column has below its diagonal entry
   pub below_part : drop 1 (take (n - i) (drop i t)) ≡ take (n - (i + 1)) (drop (i + 1) t)
   below_part =
       let wide' : n - i ≡ 1 + (n - (i + 1)) = omega arith in
-      ap (λ (m : ℕ). drop 1 (take m (drop i t))) wide' ∙ drop-take 1 (n - (i + 1)) (drop i t)
-      ∙ ap (take (n - (i + 1))) (drop-drop 1 i t)
+      cc (drop-take 1 (n - (i + 1)) (drop i t), drop-drop 1 i t)
 
   pub past_axis : (ax : List C) → length ax ≡ n - (i + 1) → drop n (put_mid (i + 1) (n - (i + 1)) t ax) ≡ drop n t
   past_axis ax long =
@@ -84,17 +80,16 @@ module _ {C R : Type 0} (K : Kind C R) (n i : ℕ) (t : List C) (some : i + 1 < 
       let count : n - i ≡ suc (n - i - 1) = omega arith in
       let one : 1 ≤ n - i = omega arith in
       let c = take (n - i) (drop i t) in
-      let front : take n (put_mid (i + 1) (n - (i + 1)) t ax) ≡ take i t ++ take 1 c ++ ax =
-      take-put_mid (i + 1) (n - (i + 1)) t ax n end start
-      ∙ ap (λ (l : List C). l ++ ax) (take-add i 1 t ∙ ap (λ (l : List C). take i t ++ l) (sym (take-take 1 (n - i) (drop i t) one))) in
-      let column : put n i (n - i) ((take 1 c ++ ax) ∷ rest) t ≡ take i t ++ ((take 1 c ++ ax) ++ put n (i + 1) (n - i - 1) rest (drop n t)) =
-      ap (λ (m : ℕ). put n i m ((take 1 c ++ ax) ∷ rest) t) count ∙ put_cons n i (n - i - 1) (take 1 c ++ ax) rest t
-      ∙ ap (λ (m : ℕ). take i t ++ ((take 1 c ++ ax) ++ put n m (n - i - 1) rest (drop n t))) (sym (add-one i)) in
-      ap (λ (l : List C). l ++ u) front ∙ ap (λ (l : List C). (take i t ++ take 1 c ++ ax) ++ l) is_u
-      ∙ (simp append_assoc) ∙ ap (λ (l : List C). take i t ++ l) (sym (append_assoc (take 1 c) ax (put n (i + 1) (n - i - 1) rest (drop n t))))
-      ∙ sym column
-      ∙ ap (λ (l : List C). put n i (n - i) ((take 1 c ++ l) ∷ rest) t) is_ax
-      ∙ ap (λ (l : List (List C)). put n i (n - i) ((take 1 c ++ axis_of K (drop 1 c)) ∷ l) t) is_rest
+      let grouped : ((take i t ++ take 1 c) ++ ax) ++ put n (suc i) (n - i - 1) rest (drop n t) ≡
+      take i t ++ ((take 1 c ++ ax) ++ put n (suc i) (n - i - 1) rest (drop n t)) = simp append_assoc in
+      cc (
+        take-put_mid (i + 1) (n - (i + 1)) t ax n end start,
+        take-add i 1 t,
+        take-take 1 (n - i) (drop i t) one,
+        grouped,
+        add-one i,
+        put_cons n i (n - i - 1) (take 1 c ++ ax) rest t,
+      )
 
   pub rest_kept : (cs : List (List C)) (c : List C) → axis_reflects K (drop 1 c) ≡ false → cs ≡ stepped_rest K c cs
   unfolding stepped_rest
@@ -112,13 +107,14 @@ module _ {C R : Type 0} (K : Kind C R) (n i : ℕ) (t : List C) (some : i + 1 < 
       put n i (n - i) (stepped_column K (take (n - i) (drop i t)) ∷
       stepped_rest K (take (n - i) (drop i t)) (lower n (i + 1) (n - i - 1) (drop n t))) t
   step_kept col ax is_col is_ax long flag =
-      let below = is_col ∙ sym below_part in
       let all : i + 1 + (n - i - 1) ≡ n = omega arith in
       let cs = lower n (i + 1) (n - i - 1) (drop n t) in
-      sym (take-append-drop n (put_mid (i + 1) (n - (i + 1)) t ax))
-      ∙ stepped_is ax (drop n (put_mid (i + 1) (n - (i + 1)) t ax)) cs long (is_ax ∙ ap (axis_of K) below)
-      (rest_kept cs (take (n - i) (drop i t)) (ap (axis_reflects K) (sym below) ∙ flag))
-      (past_axis ax long ∙ sym (put_lower n (i + 1) (n - i - 1) (drop n t) all))
+      let t1 = put_mid (i + 1) (n - (i + 1)) t ax in
+      let kept : axis_reflects K (drop 1 (take (n - i) (drop i t))) ≡ false = cc (below_part, is_col, flag) in
+      let made : ax ≡ axis_of K (drop 1 (take (n - i) (drop i t))) = cc (below_part, is_col, is_ax) in
+      let same : drop n t1 ≡ put n (i + 1) (n - i - 1) cs (drop n t) =
+      cc (past_axis ax long, put_lower n (i + 1) (n - i - 1) (drop n t) all) in
+      cc (take-append-drop n t1, stepped_is ax (drop n t1) cs long made (rest_kept cs (take (n - i) (drop i t)) kept) same)
 
   -- Where there is one the square is updated; x is what was lent of it, and u what came back.
   step_reflected : (col ax axis x u : List C) → col ≡ take (n - (i + 1)) (drop (i + 1) t) → ax ≡ axis_of K col → length ax ≡ n - (i + 1) →
@@ -130,22 +126,17 @@ module _ {C R : Type 0} (K : Kind C R) (n i : ℕ) (t : List C) (some : i + 1 < 
       put n i (n - i) (stepped_column K (take (n - i) (drop i t)) ∷
       stepped_rest K (take (n - i) (drop i t)) (lower n (i + 1) (n - i - 1) (drop n t))) t
   step_reflected col ax axis x u is_col is_ax long flag is_axis is_x is_u =
-      let below = is_col ∙ sym below_part in
       let start : i + 1 ≤ length t = omega arith in
       let same : n - (i + 1) ≡ n - i - 1 = omega arith in
       let t1 = put_mid (i + 1) (n - (i + 1)) t ax in
       let cs = lower n (i + 1) (n - i - 1) (drop n t) in
       let c = take (n - i) (drop i t) in
-      let copied : axis ≡ axis_of K (drop 1 c) =
-      is_axis ∙ between-put_mid (i + 1) (n - (i + 1)) t ax n start long ∙ is_ax ∙ ap (axis_of K) below in
-      let rest_is : x ≡ drop n t = is_x ∙ take_rest t1 n ∙ past_axis ax long in
-      let write : u ≡ put n (i + 1) (n - i - 1) (updated K (axis_of K (drop 1 c)) cs) (drop n t) =
-      is_u ∙ ap (λ (m : ℕ). put n (i + 1) m (updated K axis (lower n (i + 1) m x)) x) same
-      ∙ ap (λ (l : List C). put n (i + 1) (n - i - 1) (updated K axis (lower n (i + 1) (n - i - 1) l)) l) rest_is
-      ∙ ap (λ (l : List C). put n (i + 1) (n - i - 1) (updated K l cs) (drop n t)) copied in
-      end_written n t1 u
-      ∙ stepped_is ax u (updated K (axis_of K (drop 1 c)) cs) long (is_ax ∙ ap (axis_of K) below)
-      (rest_reflected cs c (ap (axis_reflects K) (sym below) ∙ flag)) write
+      let made : ax ≡ axis_of K (drop 1 c) = cc (below_part, is_col, is_ax) in
+      let copied : axis ≡ axis_of K (drop 1 c) = cc (is_axis, between-put_mid (i + 1) (n - (i + 1)) t ax n start long, made) in
+      let reflects : axis_reflects K (drop 1 c) ≡ true = cc (below_part, is_col, flag) in
+      let rest_is : x ≡ drop n t = cc (is_x, take_rest t1 n, past_axis ax long) in
+      let write : u ≡ put n (i + 1) (n - i - 1) (updated K (axis_of K (drop 1 c)) cs) (drop n t) = cc (is_u, same, rest_is, copied) in
+      cc (end_written n t1 u, stepped_is ax u (updated K (axis_of K (drop 1 c)) cs) long made (rest_reflected cs c reflects) write)
 
   -- Both, by what was reported.
   pub step_table : (col ax axis x u : List C) (reflects : Bool) → col ≡ take (n - (i + 1)) (drop (i + 1) t) → ax ≡ axis_of K col →
@@ -163,7 +154,11 @@ module _ {C R : Type 0} (K : Kind C R) (n i : ℕ) (t : List C) (some : i + 1 < 
       (λ (was : reflects ≡ true).
       step_reflected col ax axis x u is_col is_ax long (sym flag ∙ was) is_axis is_x (is_u ∙ cond-true reflects made x was))
       (λ (was : reflects ≡ false).
-      end_written n t1 u
-      ∙ ap (λ (l : List C). take n t1 ++ l) (is_u ∙ cond-false reflects made x was ∙ is_x ∙ take_rest t1 n)
-      ∙ take-append-drop n t1 ∙ step_kept col ax is_col is_ax long (sym flag ∙ was))
+      cc (
+        end_written n t1 u,
+        cond-false reflects made x was,
+        take_rest t1 n,
+        take-append-drop n t1,
+        step_kept col ax is_col is_ax long (sym flag ∙ was),
+      ))
       (cases_Bool reflects)

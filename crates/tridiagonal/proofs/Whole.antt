@@ -1,5 +1,5 @@
 -- The whole reduction: the table divided, reduced and read off.
-use Rattle.std.proofs.Common.{◌≡◌, ℕ, zero, suc, ◌+◌, ◌-◌, ◌*◌, ◌≤◌, true, false, cond, List, ◌∷◌, map, length, take, drop, sym, refl, ap, ◌∙◌, arith}
+use Rattle.std.proofs.Common.{◌≡◌, ℕ, zero, suc, ◌+◌, ◌-◌, ◌*◌, ◌≤◌, true, false, cond, List, map, length, drop, sym, refl, ap, ◌∙◌, arith}
 use lib.ListN.{length-map}
 use Rattle.std.proofs.lemmas.List.{take-map, drop-map, map-id}
 use Rattle.tridiagonal.specs.Blas.{unscaled}
@@ -13,12 +13,14 @@ use Rattle.tridiagonal.proofs.Shapes.{shaped_reduced}
 pub lower_map : {C : Type 0} (f : C → C) (n k m : ℕ) (t : List C) → lower n k m (map f t) ≡ map (map f) (lower n k m t)
 lower_map f n k zero t = lower_none n k (map f t) ∙ sym (ap (map (map f)) (lower_none n k t))
 lower_map {C} f n k (suc m) t =
-    lower_cons n k m (map f t)
-    ∙ ap (λ (l : List C). take (suc m) l ∷ lower n (suc k) m (drop n (map f t))) (drop-map f k t)
-    ∙ ap (λ (l : List C). l ∷ lower n (suc k) m (drop n (map f t))) (take-map f (suc m) (drop k t))
-    ∙ ap (λ (l : List C). map f (take (suc m) (drop k t)) ∷ lower n (suc k) m l) (drop-map f n t)
-    ∙ ap (λ (l : List (List C)). map f (take (suc m) (drop k t)) ∷ l) (lower_map f n (suc k) m (drop n t))
-    ∙ sym (ap (map (map f)) (lower_cons n k m t))
+    cc (
+      lower_cons n k m (map f t),
+      lower_cons n k m t,
+      drop-map f k t,
+      take-map f (suc m) (drop k t),
+      drop-map f n t,
+      lower_map f n (suc k) m (drop n t),
+    )
 
 module _ {C R : Type 0} (K : Kind C R) where
   pub length_divided : (l : R) (t : List C) → length (divided K l t) ≡ length t
@@ -50,29 +52,30 @@ module _ {C R : Type 0} (K : Kind C R) where
     pub whole_table : T ≡ reduced_table K n t
     unfolding reduced_table
     whole_table =
-        is_T ∙ ap (λ (cs : List (List C)). put n 0 n cs d) reduced_are
-        ∙ ap (put n 0 n (reduced_lower K n (largest_size K t) (lower n 0 n t))) table_is
+        cc (is_T, reduced_are, table_is)
 
     pub whole_lower : lower n 0 n T ≡ reduced_lower K n (largest_size K t) (lower n 0 n t)
     whole_lower =
         let long : n * n ≤ length d = let e = ap length is_d in let f = length_divided l t in omega arith in
         let all : 0 + n ≡ n = omega arith in
-        ap (lower n 0 n) is_T
-        ∙ lower_put n 0 n (reduced_columns K (n - 1) (lower n 0 n d)) d all long
-        (shaped_reduced K (n - 1) n (lower n 0 n d) (shaped_lower n 0 n d all long))
-        ∙ reduced_are
+        cc (
+          is_T,
+          reduced_are,
+          lower_put n 0 n (reduced_columns K (n - 1) (lower n 0 n d)) d all long
+              (shaped_reduced K (n - 1) n (lower n 0 n d) (shaped_lower n 0 n d all long)),
+        )
 
     pub whole_signs : (signs : List C) → signs ≡ reduced_norms K (n - 1) (lower n 0 n d) →
         signs ≡ reduced_signs K n (largest_size K t) (lower n 0 n t)
     unfolding reduced_signs
-    whole_signs signs e = e ∙ ap (reduced_norms K (n - 1)) columns_are
+    whole_signs signs e = cc columns_are
 
     pub whole_offs : (signs : List C) (offs : List R) → signs ≡ reduced_norms K (n - 1) (lower n 0 n d) →
         offs ≡ map K.ops.modulus signs → offs ≡ reduced_offs K n (largest_size K t) (lower n 0 n t)
     unfolding reduced_offs
-    whole_offs signs offs e f = f ∙ ap (map K.ops.modulus) (whole_signs signs e)
+    whole_offs signs offs e f = cc (whole_signs signs e)
 
     pub whole_values : (values : List R) → values ≡ diagonal K (lower n 0 n T) →
         values ≡ reduced_values K n (largest_size K t) (lower n 0 n t)
     unfolding reduced_values
-    whole_values values e = e ∙ ap (diagonal K) whole_lower
+    whole_values values e = cc whole_lower

@@ -1,7 +1,6 @@
 -- The matrix Q, column by column in one list. Definitions only.
-use Rattle.std.specs.Prelude.{ℕ, zero, suc, ◌-◌, ◌*◌, Bool, cond, ◌&&◌, List, [], ◌∷◌, ◌++◌, length, take, drop, Some, None, Ok, Err, Option, Result, ◌==◌}
-use Rattle.fault.specs.declared.Fault.{Fault}
-use Rattle.fault.specs.Refusals.{Refusal, refusal, refused}
+use Rattle.std.specs.Prelude.{ℕ, zero, suc, ◌-◌, ◌*◌, Bool, cond, ◌&&◌, List, [], ◌∷◌, ◌++◌, length, take, drop, Some, None, Option, ◌==◌}
+use Rattle.fault.specs.Refusals.{Refusal, refused}
 use Rattle.tridiagonal.specs.Householder.{Kind, reflected}
 
 module _ {C R : Type 0} (K : Kind C R) where
@@ -41,8 +40,3 @@ assemble_lengths n table signs q = table == n * n && (signs == n - 1 && q == n *
 
 abbrev pub assemble_refusal : {C : Type 0} → ℕ → List C → List C → List C → Option Refusal
 assemble_refusal n table signs q = cond (assemble_lengths n (length table) (length signs) (length q)) None (Some (refused 2 []))
-
--- what `assemble` answers: a refusal, or none
-abbrev pub refused_in : {A : Type 0} → Result A Fault → Option Refusal
-refused_in (Ok a) = None
-refused_in (Err fault) = Some (refusal fault)

@@ -17,6 +17,11 @@ abbrev pub reduce_outcome : {R : Type 0} → Option Refusal → ℕ → R → Ou
 reduce_outcome None n largest = Reduced n largest
 reduce_outcome (Some why) n largest = Refused why
 
+-- what a check answers: a refusal, or none
+abbrev pub refused_in : {A : Type 0} → Result A Fault → Option Refusal
+refused_in (Ok a) = None
+refused_in (Err fault) = Some (refusal fault)
+
 -- A buffer whose content is left open: only that it keeps its length is said, or what it held where there is a refusal.
 abbrev pub LeftOpen : {A : Type 0} → Option Refusal → List A → List A → Type 0
 LeftOpen None was now = length now ≡ length was

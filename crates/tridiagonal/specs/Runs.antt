@@ -33,23 +33,18 @@ abbrev pub refused_for : {C R : Type 0} → Kind C R → ℕ → Buffers C R →
 refused_for K n given = refusal_for K n given.table given.values given.offs given.signs given.scratch
 
 -- A call of `reduce`, by all that it promises.
-pub record ReduceRun {C R : Type 0} (K : Kind C R) (n : ℕ) (given : Buffers C R) (answer : Outcome R) (left : Buffers C R) : Type 0 where
-  pub answered : answer ≡ reduce_outcome
-      (refused_for K n given) n (largest_size K given.table)
-  pub table : left.table ≡ unless_refused
-      (refused_for K n given) given.table (reduced_table K n given.table)
-  pub values : left.values ≡ unless_refused
-      (refused_for K n given) given.values (values_of K n given.table)
-  pub offs : left.offs ≡ unless_refused
-      (refused_for K n given) given.offs (offs_of K n given.table)
-  pub signs : left.signs ≡ unless_refused
-      (refused_for K n given) given.signs (signs_of K n given.table)
-  pub scratch : LeftOpen
-      (refused_for K n given) given.scratch left.scratch
+pub record ReduceRun {C R : Type 0} (K : Kind C R) (n : ℕ) (given : Buffers C R) (outcome : Outcome R) (left : Buffers C R) : Type 0 where
+  pub answer : outcome ≡ reduce_outcome (refused_for K n given) n (largest_size K given.table)
+  pub table : left.table ≡ unless_refused (refused_for K n given) given.table (reduced_table K n given.table)
+  pub values : left.values ≡ unless_refused (refused_for K n given) given.values (values_of K n given.table)
+  pub offs : left.offs ≡ unless_refused (refused_for K n given) given.offs (offs_of K n given.table)
+  pub signs : left.signs ≡ unless_refused (refused_for K n given) given.signs (signs_of K n given.table)
+  pub scratch : LeftOpen (refused_for K n given) given.scratch left.scratch
 
 -- Two tables of side n are alike on and below the diagonal: the same number wherever the row is at least the column.
 abbrev pub AlikeBelow : {C : Type 0} → ℕ → List C → List C → Type 0
-AlikeBelow {C} n t u = (row column : ℕ) (d : C) → column ≤ row → row < n → slice_index_or t (column * n + row) d ≡ slice_index_or u (column * n + row) d
+AlikeBelow {C} n t u = (row column : ℕ) (d : C) → column ≤ row → row < n →
+    slice_index_or t (column * n + row) d ≡ slice_index_or u (column * n + row) d
 
 -- The same values, offs and signs are left, and the same Q is made of what is left.
 pub record SameForm {C R : Type 0} (K : Kind C R) (n : ℕ) (a b : Buffers C R) : Type 0 where

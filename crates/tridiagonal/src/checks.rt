@@ -1,66 +1,59 @@
 // What a reduction is refused for.
-ghost use Rattle.std.specs.Prelude.{◌≡◌, ◌-◌, ◌*◌, ◌<◌, ◌≤◌, true, false, length};
-ghost use Rattle.tridiagonal.specs.Checks.{refusal_in, side_refused, lengths_agree, entry_refusal, reduce_refusal};
+ghost use Rattle.std.specs.Prelude.{◌≡◌, ◌-◌, ◌*◌, ◌<◌, not, position};
+ghost use Rattle.tridiagonal.specs.Checks.{entry_refusal, refusal_for};
 ghost use Rattle.tridiagonal.specs.Householder.{kind};
+ghost use Rattle.tridiagonal.specs.Outcome.{refused_in};
 
 use fault::Fault;
 use scalar::{Arithmetic, RealScalar, Scalar};
 
-fn side_refused(n: usize) -> bool
-    ensures { result ≡ side_refused n }
+// The place of the first entry whose size is not finite.
+fn first_not_finite<T: Scalar>(table: &[T]) -> Option<usize>
+    ensures { result ≡ position (λ x. not (T.Real.real.is_finite (T.ops.size x))) table.now }
 {
-    n == 0 || n > 512
-}
-
-fn lengths_agree(
-    n: usize,
-    table: usize,
-    values: usize,
-    offs: usize,
-    signs: usize,
-    scratch: usize,
-) -> bool
-    requires some { 0 < n }
-    requires few { n ≤ 512 }
-    ensures { result ≡ lengths_agree n table values offs signs scratch }
-{
-    table == n * n && (values == n && (offs == n - 1 && (signs == n - 1 && scratch == n - 1)))
+    table.iter().position(|x| !x.size().is_finite())
 }
 
 // The first entry whose size is not finite, by its row and column.
-fn entry_refused<T: Scalar>(n: usize, table: &[T]) -> Option<Fault>
+#[tactic(auto, using(crate::proofs::Entries::entry_checked))]
+fn check_entries<T: Scalar>(n: usize, table: &[T]) -> Result<(), Fault>
     requires { 0 < n }
-    ensures { refusal_in result ≡ entry_refusal (kind T.Arithmetic.ops T.Real.Arithmetic.ops T.Real.RealScalar.real) n 0
-        table.now }
+    ensures { refused_in result ≡ entry_refusal (kind T.ops T.Real.ops T.Real.real) n 0 table.now }
 {
-    for k in 0..table.len() {
-        if !table[k].size().is_finite() {
-            return Some(Fault::Entry {
-                row: k % n,
-                column: k / n,
-            });
-        }
+    match first_not_finite(table) {
+        Some(k) => Err(Fault::Entry {
+            row: k % n,
+            column: k / n,
+        }),
+        None => Ok(()),
     }
-    None
 }
 
 // The refusals of a reduction, in their order: the side, the lengths, the entries.
-pub(crate) fn reduce_refused<T: Scalar>(
+#[tactic(auto, unfolding(crate::specs::Checks::reduce_refusal))]
+pub(crate) fn check<T: Scalar>(
     n: usize,
     table: &[T],
-    values: usize,
-    offs: usize,
-    signs: usize,
-    scratch: usize,
-) -> Option<Fault>
-    ensures { refusal_in result ≡ reduce_refusal (kind T.Arithmetic.ops T.Real.Arithmetic.ops T.Real.RealScalar.real) n
-        table.now values offs signs scratch }
+    values: &[T::Real],
+    offs: &[T::Real],
+    signs: &[T],
+    scratch: &[T],
+) -> Result<(), Fault>
+    ensures { refused_in result ≡ refusal_for (kind T.ops T.Real.ops T.Real.real) n
+        table.now values.now offs.now signs.now scratch.now }
 {
-    if side_refused(n) {
-        return Some(Fault::Side);
+    if n == 0 || n > 512 {
+        return Err(Fault::Side);
     }
-    if !lengths_agree(n, table.len(), values, offs, signs, scratch) {
-        return Some(Fault::Length);
+    let lengths = [
+        table.len(),
+        values.len(),
+        offs.len(),
+        signs.len(),
+        scratch.len(),
+    ];
+    if lengths != [n * n, n, n - 1, n - 1, n - 1] {
+        return Err(Fault::Length);
     }
-    entry_refused(n, table)
+    check_entries(n, table)
 }

@@ -1,10 +1,8 @@
 // The matrix Q of a reduction.
-ghost use Rattle.std.specs.Prelude.{◌≡◌, ◌+◌, ◌-◌, ◌*◌, ◌<◌, ◌≤◌, length, take, drop, if◌then◌else◌, nat_eq};
-ghost use borrow.Rule.Slice.PartMut.{put_mid};
-ghost use Rattle.tridiagonal.specs.Assemble.{unit_from, identity_from, reflected_columns, matrix_q};
-ghost use Rattle.tridiagonal.specs.Assemble.{assemble_lengths, assemble_refusal, refused_in};
-ghost use Rattle.tridiagonal.specs.Householder.{kind, reflected};
-ghost use Rattle.tridiagonal.specs.Outcome.{unless_refused};
+ghost use Rattle.std.specs.Prelude.{◌≡◌, ◌+◌, ◌-◌, ◌*◌, ◌<◌, ◌≤◌, length, ◌==◌, if◌then◌else◌};
+ghost use Rattle.tridiagonal.specs.Assemble.{assemble_refusal, identity_from, matrix_q, reflected_columns};
+ghost use Rattle.tridiagonal.specs.Householder.{kind};
+ghost use Rattle.tridiagonal.specs.Outcome.{refused_in, unless_refused};
 ghost use Rattle.tridiagonal.specs.Tables.{lower};
 
 use crate::blas::column;
@@ -15,55 +13,27 @@ use scalar::{Arithmetic, RealScalar, Scalar};
 
 // The entry of the identity in row i and column j.
 fn unit_entry<T: Scalar>(i: usize, j: usize) -> T
-    ensures { result ≡ (if nat_eq i j then T.Arithmetic.ops.one else T.Arithmetic.ops.zero) }
+    ensures { result ≡ (if i == j then T.ops.one else T.ops.zero) }
 {
     if i == j { T::one() } else { T::zero() }
 }
 
-// Column j of the identity.
-fn unit_column<T: Scalar>(column: &mut [T], j: usize)
-    ensures { column.new ≡ unit_from (kind T.Arithmetic.ops T.Real.Arithmetic.ops T.Real.RealScalar.real) j 0
-        (length column.old) }
-{
-    for i in 0..column.len() {
-        column[i] = unit_entry(i, j);
-    }
-}
-
-fn unit_column_at<T: Scalar>(q: &mut [T], n: usize, j: usize)
-    requires { j * n + n ≤ length q.old }
-    ensures { q.new ≡ put_mid (j * n) (j * n + n - j * n) q.old
-        (unit_from (kind T.Arithmetic.ops T.Real.Arithmetic.ops T.Real.RealScalar.real) j 0 n) }
-{
-    unit_column(&mut q[j * n..j * n + n], j);
-}
-
+// The identity, column by column.
 fn identity<T: Scalar>(n: usize, q: &mut [T])
-    requires { length q.old ≡ n * n }
-    ensures { q.new ≡ identity_from (kind T.Arithmetic.ops T.Real.Arithmetic.ops T.Real.RealScalar.real) n 0 n }
+    requires some { 0 < n }
+    requires held { length q.old ≡ n * n }
+    ensures { q.new ≡ identity_from (kind T.ops T.Real.ops T.Real.real) n 0 n }
 {
-    for j in 0..n {
-        unit_column_at(q, n, j);
+    for (k, entry) in q.iter_mut().enumerate() {
+        *entry = unit_entry(k % n, k / n);
     }
 }
 
 // The sign that a reflection is applied with: the reported norm's own, which is -1 at -0, where the sign split gives 1.
 fn norm_sign<T: Scalar>(norm: T) -> T
-    ensures { result ≡ T.Arithmetic.ops.sign norm }
+    ensures { result ≡ T.ops.sign norm }
 {
     norm.signum()
-}
-
-// Reflects column j, from row r down.
-fn reflect_column<T: Scalar>(q: &mut [T], n: usize, j: usize, r: usize, axis: &[T], sign: T)
-    requires rows { r ≤ n }
-    requires held { j * n + n ≤ length q.old }
-    requires as_axis { length axis.now ≡ n - r }
-    ensures { q.new ≡ put_mid (j * n + r) (j * n + n - (j * n + r)) q.old
-        (reflected (kind T.Arithmetic.ops T.Real.Arithmetic.ops T.Real.RealScalar.real) axis.now sign
-        (take (n - r) (drop (j * n + r) q.old))) }
-{
-    reflect_with_sign(axis, &mut q[j * n + r..j * n + n], sign);
 }
 
 // Reflects m columns, each from row r down.
@@ -71,11 +41,11 @@ fn reflect_columns<T: Scalar>(q: &mut [T], n: usize, r: usize, m: usize, axis: &
     requires rows { r ≤ n }
     requires held { length q.old ≡ m * n }
     requires as_axis { length axis.now ≡ n - r }
-    ensures { q.new ≡ reflected_columns (kind T.Arithmetic.ops T.Real.Arithmetic.ops T.Real.RealScalar.real) n r
-        axis.now sign m q.old }
+    ensures { q.new ≡ reflected_columns (kind T.ops T.Real.ops T.Real.real) n r axis.now sign m q.old }
 {
+    // Not over chunks_exact_mut: of q a proof then knows the length alone (at `returns`).
     for j in 0..m {
-        reflect_column(q, n, j, r, axis, sign);
+        reflect_with_sign(axis, &mut q[j * n + r..j * n + n], sign);
     }
 }
 
@@ -85,13 +55,11 @@ fn assemble_q<T: Scalar>(n: usize, table: &[T], signs: &[T], q: &mut [T])
     requires held { length table.now ≡ n * n }
     requires as_signs { length signs.now ≡ n - 1 }
     requires as_q { length q.old ≡ n * n }
-    ensures { q.new ≡ matrix_q (kind T.Arithmetic.ops T.Real.Arithmetic.ops T.Real.RealScalar.real) n
+    ensures { q.new ≡ matrix_q (kind T.ops T.Real.ops T.Real.real) n
         (lower n 0 n table.now) signs.now }
 {
     identity(n, q);
-    let mut i = n - 1;
-    while i > 0 {
-        i -= 1;
+    for i in (0..n - 1).rev() {
         reflect_columns(
             &mut q[i * n..],
             n,
@@ -103,14 +71,6 @@ fn assemble_q<T: Scalar>(n: usize, table: &[T], signs: &[T], q: &mut [T])
     }
 }
 
-fn lengths_agree(n: usize, table: usize, signs: usize, q: usize) -> bool
-    requires some { 0 < n }
-    requires few { n ≤ 512 }
-    ensures { result ≡ assemble_lengths n table signs q }
-{
-    table == n * n && (signs == n - 1 && q == n * n)
-}
-
 // Fills q with the matrix Q of a reduction, from the table and the signs that it left. The reduction stays usable.
 pub fn assemble<T: Scalar>(
     reduction: &Reduction<T::Real>,
@@ -118,19 +78,15 @@ pub fn assemble<T: Scalar>(
     signs: &[T],
     q: &mut [T],
 ) -> Result<(), Fault>
-    ensures answer { refused_in result ≡ assemble_refusal reduction.now.side table.now signs.now
-        q.old }
-    ensures q { q.new ≡ unless_refused
-        (assemble_refusal reduction.now.side table.now signs.now q.old)
-        q.old
-        (matrix_q (kind T.Arithmetic.ops T.Real.Arithmetic.ops T.Real.RealScalar.real) reduction.now.side
-        (lower reduction.now.side 0 reduction.now.side table.now) signs.now) }
+    ensures answer { refused_in result ≡ assemble_refusal reduction.now.side table.now signs.now q.old }
+    ensures q { let n = reduction.now.side in
+        q.new ≡ unless_refused (assemble_refusal n table.now signs.now q.old) q.old
+        (matrix_q (kind T.ops T.Real.ops T.Real.real) n (lower n 0 n table.now) signs.now) }
 {
     let n = reduction.side();
-    if lengths_agree(n, table.len(), signs.len(), q.len()) {
-        assemble_q(n, table, signs, q);
-        Ok(())
-    } else {
-        Err(Fault::Length)
+    if [table.len(), signs.len(), q.len()] != [n * n, n - 1, n * n] {
+        return Err(Fault::Length);
     }
+    assemble_q(n, table, signs, q);
+    Ok(())
 }

@@ -1,4 +1,4 @@
-use Rattle.std.proofs.Common.{◌≡◌, ◌-◌, ◌*◌, ◌≤◌, drop}
+use Rattle.std.proofs.Common.{◌≡◌, ◌-◌, ◌*◌, drop}
 use Rattle.tridiagonal.specs.Assemble.{assembled_from}
 use Rattle.tridiagonal.specs.Householder.{kind}
 use Rattle.tridiagonal.specs.Tables.{lower}
@@ -7,9 +7,5 @@ use Rattle.tridiagonal.proofs.matrix_q.assemble_q.Given as goal
 -- The columns from i on are done.
 abbrev pub invariant-loop-i : goal.invariant-loop-i
 invariant-loop-i g l =
-    (l.i ≤ l.n - 1) ×
-    (l.q ≡ assembled_from (kind g.T.Arithmetic.ops g.T.Real.Arithmetic.ops g.T.Real.RealScalar.real) l.n l.i
-    (lower l.n l.i (l.n - l.i) (drop (l.i * l.n) l.table)) (drop l.i l.signs))
-
-abbrev pub decreases-loop-i : goal.decreases-loop-i
-decreases-loop-i g l = l.i
+    l.q ≡ assembled_from (kind g.T.Arithmetic.ops g.T.Real.Arithmetic.ops g.T.Real.RealScalar.real) l.n l.i
+    (lower l.n l.i (l.n - l.i) (drop (l.i * l.n) l.table)) (drop l.i l.signs)
