@@ -1,29 +1,14 @@
 -- What a column holds after its first entry, or a part of it lent from its middle, was written.
-use Rattle.std.proofs.Common.{◌≡◌, ℕ, ◌+◌, ◌-◌, ◌<◌, ◌≤◌, List, [], ◌∷◌, ◌++◌, length, take, drop, set, ap, ◌∙◌, arith, length-drop, drop-set-lt}
-use lib.Seq.{set_split}
+use Rattle.std.proofs.Common.{◌≡◌, ℕ, ◌+◌, ◌-◌, ◌<◌, ◌≤◌, List, [], ◌∷◌, ◌++◌, length, take, drop, set, ap, ◌∙◌, arith, length-drop}
 use borrow.Rule.Slice.PartMut.{put_mid, same_len_mid, take_put}
-use Rattle.std.proofs.lemmas.List.{append-nil, drop_all, take_rest, take_more_set}
+use Rattle.std.proofs.lemmas.List.{append-nil, drop_all, take_more_set}
 
 module _ {C : Type 0} where
-  pub set_first : (xs : List C) (v : C) → 0 < length xs → set xs 0 v ≡ v ∷ drop 1 xs
-  set_first xs v h = set_split xs 0 v h
-
   -- a part from a to the end
   pub end_written : (a : ℕ) (xs ys : List C) → put_mid a (length xs - a) xs ys ≡ take a xs ++ ys
   end_written a xs ys =
       let none : drop (length xs - a) (drop a xs) ≡ [] = drop_all (length xs - a) (drop a xs) (let n = length-drop a xs in omega arith) in
       ap (λ (l : List C). take a xs ++ (ys ++ l)) none ∙ ap (λ (l : List C). take a xs ++ l) (append-nil ys)
-
-  -- the first entry, and then the part after it
-  pub tail_written : (xs ys : List C) (v : C) → 0 < length xs →
-      put_mid 1 (length (set xs 0 v) - 1) (set xs 0 v) ys ≡ v ∷ ys
-  tail_written xs ys v h =
-      end_written 1 (set xs 0 v) ys ∙ ap (λ (l : List C). take 1 l ++ ys) (set_first xs v h)
-
-  pub tail_lent : (xs : List C) (v : C) → take (length (set xs 0 v) - 1) (drop 1 (set xs 0 v)) ≡ drop 1 xs
-  tail_lent xs v =
-      let below : 0 < 1 = omega arith in
-      take_rest (set xs 0 v) 1 ∙ drop-set-lt 1 xs 0 v below
 
   -- an entry set after the part from it on was written
   pub first_of_part_set : (i : ℕ) (xs ys : List C) (v : C) → i < length xs → length ys ≡ length (take (length xs - i) (drop i xs)) →

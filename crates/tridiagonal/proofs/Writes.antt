@@ -1,5 +1,5 @@
 -- Loops that write a column in place, from the first entry on.
-use Rattle.std.proofs.Common.{◌≡◌, ℕ, ◌+◌, ◌<◌, ◌≤◌, List, [], ◌∷◌, ◌++◌, map, length, get_or, take, drop, set, sym, ap, ◌∙◌, append_assoc, arith, drop-set-lt}
+use Rattle.std.proofs.Common.{◌≡◌, ℕ, ◌+◌, ◌<◌, ◌≤◌, List, [], ◌∷◌, ◌++◌, length, get_or, take, drop, set, sym, ap, ◌∙◌, append_assoc, arith, drop-set-lt}
 use Rattle.std.proofs.lemmas.List.{take_more_set, drop_more, append-nil, take_all}
 
 -- One entry more: H makes what is left of the column, and H' the rest after it.
@@ -21,14 +21,6 @@ write_more {C} H H' ys i v d h e =
 pub written : {C : Type 0} (ys zs : List C) (i : ℕ) → length ys ≤ i → zs ≡ [] → take i ys ++ zs ≡ ys
 written {C} ys zs i h e =
     ap (λ (l : List C). take i ys ++ l) e ∙ append-nil (take i ys) ∙ take_all i ys h
-
--- A column made from another one.
-pub map_out_more : {X C : Type 0} (f : X → C) (xs : List X) (ys : List C) (i : ℕ) (v : C) (d : X) → i < length xs → i < length ys →
-    v ≡ f (get_or xs i d) →
-    take (i + 1) (set ys i v) ++ map f (drop (i + 1) xs) ≡ take i ys ++ map f (drop i xs)
-map_out_more {X} {C} f xs ys i v d hx hy is =
-    write_more (λ _. map f (drop i xs)) (λ _. map f (drop (i + 1) xs)) ys i v v hy
-    (ap (map f) (drop_more xs i d hx) ∙ ap (λ (w : C). w ∷ map f (drop (i + 1) xs)) (sym is))
 
 -- What is left of the column does not depend on it.
 pub write_out : {C : Type 0} (Z Z' ys : List C) (i : ℕ) (v : C) → i < length ys → Z ≡ v ∷ Z' →

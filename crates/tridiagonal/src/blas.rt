@@ -38,7 +38,8 @@ pub(crate) fn dotc<T: Scalar>(x: &[T], y: &[T]) -> T
     sum
 }
 
-// y becomes (a·u)·1 for each entry u of x: axpy where y's factor is zero.
+// y becomes (a·u)·1 for each entry u of x: axpy where y's factor is zero. x by index, here and in axcpy: after a loop over
+// y.iter_mut().zip(x) a proof knows the length of y and no entry.
 pub(crate) fn axc<T: Scalar>(y: &mut [T], a: T, x: &[T])
     requires { length x.now ≡ length y.old }
     ensures { y.new ≡ axc_of T.ops a x.now }

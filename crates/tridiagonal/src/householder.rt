@@ -14,7 +14,6 @@ pub(crate) struct Reported<T: Copy> {
 }
 
 // Makes the column the axis of the reflection that leaves only its first entry.
-#[tactic(auto, unfolding(crate::specs::Householder::signed_norm, crate::specs::Householder::axis_factor, crate::specs::Householder::axis_reflects, crate::specs::Householder::axis_norm, crate::specs::Householder::first_moved, crate::specs::Householder::axis_of,))]
 pub(crate) fn reflection_axis_mut<T: Scalar>(column: &mut [T]) -> Reported<T>
     requires { 0 < length column.old }
     ensures norm { result.norm ≡ axis_norm (kind T.ops T.Real.ops T.Real.real) column.old }

@@ -8,13 +8,6 @@ use Rattle.tridiagonal.proofs.Columns.{column_held, column_next, put_none, shape
 use Rattle.tridiagonal.proofs.Products.{hegerc_more, shaped_hegerc}
 use Rattle.tridiagonal.proofs.blas.hegerc.Goals as goal
 
-pub axpy_column-requires : goal.axpy_column-requires
-axpy_column-requires g c =
-    let held = column_held c.loop-j.j (c.args.n - c.args.k) c.args.n c.loop-j-test.true in
-    let same = c.loop-j.auto.t in
-    let x_long = ap length (take_rest c.args.x.now c.loop-j.j) ∙ length-drop c.loop-j.j c.args.x.now in
-    record { rows = omega arith; held = omega arith; as_x = omega arith }
-
 pub loop-j-preserved : goal.loop-j-preserved
 loop-j-preserved g c =
     let n = c.args.n in let k = c.args.k in let j = c.loop-j.j in let t = c.loop-j.t in
