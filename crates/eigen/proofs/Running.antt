@@ -1,13 +1,14 @@
 -- A run pass by pass: what is left gives the whole.
 use Rattle.std.proofs.Common.{◌≡◌, ℕ, suc, ◌+◌, ◌-◌, ◌<◌, ◌≤◌, Bool, true, false, cond, ltb, List, Some, None, Option, sym, refl, ap, ◌∙◌, arith}
 use Rattle.std.proofs.lemmas.Bool.{eq-eqb, ne_eqb}
+use Rattle.std.specs.Option.{is_some}
 use Rattle.scalar.specs.Ops.{Ops, RealOps}
 use Rattle.rows.specs.Turns.{Turn}
 use Rattle.rows.specs.Keepers.{Kept, Answer}
 use Rattle.eigen.specs.declared.delimit.Block.{Block}
 use Rattle.eigen.specs.declared.eigenvalues.Vector2.{Vector2}
 use Rattle.eigen.specs.Turnings.{Turning, unturned, kept_all}
-use Rattle.eigen.specs.Passes.{pass_left, pass_end, pair_at, pair_put, pair_exists, exists, chase_end}
+use Rattle.eigen.specs.Passes.{pass_left, pass_end, pair_at, pair_put, pair_exists, chase_end}
 use Rattle.eigen.specs.Chases.{chased}
 use Rattle.eigen.specs.Blocks.{block_from, offs_from, within}
 use Rattle.eigen.specs.Iterate.{Step, single, broken, passed, Ran, ran_of, onward, settled, not_settled, no_pair, iterate}
@@ -50,7 +51,7 @@ module _ {R : Type 0} (ops : Ops R R) (real : RealOps R) (tolerance : R) where
     where
       go : (b : Bool) (o : Option (Vector2 R)) →
           None ≡ cond b (Some (chase_end ops real tolerance end (chased ops real start end values offs)))
-          (cond (exists o) (Some (end - 1)) None) →
+          (cond (is_some o) (Some (end - 1)) None) →
           cond b (chased ops real start end values offs) (pair_put ops real tolerance start values offs o) ≡ unturned values offs
       go true o e = absurd (some_none _ e)
       go false None e = refl
@@ -70,11 +71,7 @@ module _ {R : Type 0} (ops : Ops R R) (real : RealOps R) (tolerance : R) where
 
   pub search_same : (next : ℕ) (v v' o o' o'' : List R) (block : Block) → v' ≡ v → o' ≡ o → o'' ≡ offs_from ops real tolerance v' o' next →
       block ≡ block_from ops real tolerance v' o' next → standing_of v' o'' block ≡ searched ops real tolerance v o next
-  search_same next v v' o o' o'' block p q u w =
-      ap (λ (x : List R). standing_of v' x block) u
-      ∙ ap (standing_of v' (offs_from ops real tolerance v' o' next)) w
-      ∙ ap (λ (x : List R). searched ops real tolerance x o' next) p
-      ∙ ap (λ (x : List R). searched ops real tolerance v x next) q
+  search_same next v v' o o' o'' block p q u w = cc
 
 module _ {C R : Type 0} (ops : Ops C R) (rops : Ops R R) (real : RealOps R) (tolerance : R) (limit : ℕ) where
   -- what a run from here gives
@@ -154,24 +151,30 @@ module _ {C R : Type 0} (ops : Ops C R) (rops : Ops R R) (real : RealOps R) (tol
       ∙ sym (ap (λ (r : Ran (Standing R) (Turn R)). ended_by ops r k)
       (iterate_step (pass_of rops real tolerance) limit count s (passed (standing_of values' offs'' block') left.turns) h is))
 
-  -- the whole run, from its end
-  pub run_ends : (side end : ℕ) (largest : R) (values values₁ offs offs₁ : List R) (block : Block) (k : Kept C) (e : Ended C R) →
+  -- a run that begins with a search at the last off-diagonal entry
+  pub run_begins : (side end : ℕ) (values values₁ offs offs₁ : List R) (block : Block) (k : Kept C) →
       end ≡ side - 1 → values₁ ≡ values → offs₁ ≡ offs_from rops real tolerance values offs end →
       block ≡ block_from rops real tolerance values offs end →
-      (f : Ended C R) → f ≡ e → f ≡ ended_by ops (iterate (pass_of rops real tolerance) limit 0 (standing_of values₁ offs₁ block)) k →
+      ends_from 0 values₁ offs₁ block k
+      ≡ ended_by ops (iterate (pass_of rops real tolerance) limit 0 (searched rops real tolerance values offs (side - 1))) k
+  run_begins side end values values₁ offs offs₁ block k n v u w =
+      let z : limit - 0 ≡ limit = omega arith in
+      ap (λ (m : ℕ). ended_by ops (iterate (pass_of rops real tolerance) m 0 (standing_of values₁ offs₁ block)) k) z
+      ∙ ap (λ (s : Standing R). ended_by ops (iterate (pass_of rops real tolerance) limit 0 s) k)
+      (ap (λ (x : List R). standing_of x offs₁ block) v
+      ∙ search_same rops real tolerance end values values offs offs offs₁ block refl refl u w
+      ∙ ap (searched rops real tolerance values offs) n)
+
+  -- what the whole run gives, from its end
+  pub run_ends : (side : ℕ) (largest : R) (values offs : List R) (k : Kept C) (e : Ended C R) →
+      e ≡ ended_by ops (iterate (pass_of rops real tolerance) limit 0 (searched rops real tolerance values offs (side - 1))) k →
       (e.answer ≡ (run_of rops real tolerance limit side largest values offs).answer)
       × (values_at rops largest e.answer e.values ≡ (run_of rops real tolerance limit side largest values offs).values)
       × (e.offs ≡ (run_of rops real tolerance limit side largest values offs).offs)
       × (e.kept ≡ kept_all ops (run_of rops real tolerance limit side largest values offs).turns k)
-  run_ends side end largest values values₁ offs offs₁ block k e n v u w f was is =
-      let found : standing_of values₁ offs₁ block ≡ searched rops real tolerance values offs (side - 1) =
-      ap (λ (x : List R). standing_of x offs₁ block) v
-      ∙ search_same rops real tolerance end values values offs offs offs₁ block refl refl u w
-      ∙ ap (searched rops real tolerance values offs) n in
-      let whole : e ≡ ended_by ops (iterate (pass_of rops real tolerance) limit 0 (searched rops real tolerance values offs (side - 1))) k =
-      sym was ∙ is ∙ ap (λ (s : Standing R). ended_by ops (iterate (pass_of rops real tolerance) limit 0 s) k) found in (
-        ap (λ (e : Ended C R). e.answer) whole,
-        ap (λ (e : Ended C R). values_at rops largest e.answer e.values) whole,
-        ap (λ (e : Ended C R). e.offs) whole,
-        ap (λ (e : Ended C R). e.kept) whole,
-      )
+  run_ends side largest values offs k e whole = (
+    ap (λ (e : Ended C R). e.answer) whole,
+    ap (λ (e : Ended C R). values_at rops largest e.answer e.values) whole,
+    ap (λ (e : Ended C R). e.offs) whole,
+    ap (λ (e : Ended C R). e.kept) whole,
+  )

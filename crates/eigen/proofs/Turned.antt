@@ -10,9 +10,9 @@ use Rattle.rows.specs.declared.direction.Direction.TheVariants.{Back}
 use Rattle.eigen.specs.declared.givens.Normed.{Normed}
 use Rattle.eigen.specs.declared.eigenvalues.Vector2.{Vector2}
 use Rattle.eigen.specs.Givens.{cancel_y}
-use Rattle.eigen.specs.Passes.{forward, exists, pair_put}
-use Rattle.eigen.specs.Turnings.{Turning, Left, unturned, after, kept_all, left_by}
-use Rattle.eigen.specs.Chases.{chase_from, chase_on, chased, first_bulge, step_values, step_offs, bulge_next, bulge_offs}
+use Rattle.eigen.specs.Passes.{forward, pair_put}
+use Rattle.eigen.specs.Turnings.{Turning, unturned, after, kept_all, left_by}
+use Rattle.eigen.specs.Chases.{chase_from, chase_on, step_values, step_offs, bulge_next, bulge_offs}
 
 module _ {C R : Type 0} (ops : Ops C R) where
   -- one turn inside the width, then a list of turns
@@ -99,11 +99,7 @@ module _ {C R : Type 0} (ops : Ops C R) (rops : Ops R R) (real : RealOps R) (sta
 
   same_left : (n i : ℕ) (b b' : Vector2 R) (v v' o o' : List R) (k k' : Kept C) → b' ≡ b → v' ≡ v → o' ≡ o → k' ≡ k →
       left_by ops (chase_from rops real start end n i b' v' o') k' ≡ left_by ops (chase_from rops real start end n i b v o) k
-  same_left n i b b' v v' o o' k k' p q r t =
-      ap (λ (x : Vector2 R). left_by ops (chase_from rops real start end n i x v' o') k') p
-      ∙ ap (λ (x : List R). left_by ops (chase_from rops real start end n i b x o') k') q
-      ∙ ap (λ (x : List R). left_by ops (chase_from rops real start end n i b v x) k') r
-      ∙ ap (λ (x : Kept C). left_by ops (chase_from rops real start end n i b v o) x) t
+  same_left n i b b' v v' o o' k k' p q r t = cc
 
   pub chase_again : (i : ℕ) (found : Normed R) (bulge bulge' : Vector2 R) (values values' offs offs' : List R) (k k' : Kept C) →
       i < end → end < k.width → Some found ≡ cancel_y rops real bulge.x bulge.y →
@@ -117,19 +113,12 @@ module _ {C R : Type 0} (ops : Ops C R) (rops : Ops R R) (real : RealOps R) (sta
       same_left (end - (i + 1)) (i + 1) _ bulge' _ values' _ offs' _ k' p q r t
       ∙ chase_more i found bulge values offs k h w e
 
-  pub chase_done : (values offs : List R) (k : Kept C) (o : Turning R) → o ≡ unturned values offs →
-      left_by ops o k ≡ record { values = values; offs = offs; kept = k }
-  chase_done values offs k o e =
-      ap (λ (o : Turning R). left_by ops o k) e
-      ∙ ap (λ (q : Kept C). record { values = values; offs = offs; kept = q }) (turn_none ops k)
-
-  -- the whole, from the bulge that a block's chase starts from
-  pub chase_whole : (bulge : Vector2 R) (values offs : List R) (k : Kept C) (l : Left C R) → bulge ≡ first_bulge rops real start end
-      values offs →
-      l ≡ left_by ops (chase_from rops real start end (end - start) start bulge values offs) k → l ≡ left_by ops
-      (chased rops real start end values offs) k
-  chase_whole bulge values offs k l b e =
-      e ∙ ap (λ (b : Vector2 R). left_by ops (chase_from rops real start end (end - start) start b values offs) k) b
+-- a chase that is left leaves what stands
+pub chase_done : {C R : Type 0} (ops : Ops C R) (values offs : List R) (k : Kept C) (o : Turning R) → o ≡ unturned values offs →
+    left_by ops o k ≡ record { values = values; offs = offs; kept = k }
+chase_done {C} {R} ops values offs k o e =
+    ap (λ (o : Turning R). left_by ops o k) e
+    ∙ ap (λ (q : Kept C). record { values = values; offs = offs; kept = q }) (turn_none ops k)
 
 -- a block of two with no rotation, and with no real eigenvalues
 pub forward_none : {C R : Type 0} (ops : Ops C R) (start : ℕ) (k : Kept C) (o : Option (Normed R)) → None ≡ o → k ≡ kept_all ops

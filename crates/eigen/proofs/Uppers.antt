@@ -1,5 +1,5 @@
 -- What stands above the diagonal has no say in a run. Assumes nothing.
-use Rattle.std.proofs.Common.{◌≡◌, ℕ, List, sym, refl, ◌∙◌, subst}
+use Rattle.std.proofs.Common.{◌≡◌, ℕ, sym, ◌∙◌}
 use Rattle.scalar.specs.Ops.{Ops, RealOps}
 use Rattle.tridiagonal.specs.Householder.{kind}
 use Rattle.tridiagonal.specs.Runs.{Run as Reducing, SameForm}

@@ -1,5 +1,6 @@
 -- One pass over a block: the chase of three or more, the closed form of two. Definitions only.
-use Rattle.std.specs.Prelude.{ℕ, ◌+◌, ◌-◌, Bool, true, false, cond, List, [], ◌∷◌, Some, None, Option, nat_lt, slice_set}
+use Rattle.std.specs.Prelude.{ℕ, ◌+◌, ◌-◌, Bool, cond, List, [], ◌∷◌, Some, None, Option, nat_lt, slice_set}
+use Rattle.std.specs.Option.{is_some}
 use Rattle.scalar.specs.Ops.{Ops, RealOps}
 use Rattle.rows.specs.Turns.{Turn, turn_of}
 use Rattle.rows.specs.declared.direction.Direction.TheVariants.{Forward}
@@ -15,11 +16,6 @@ use Rattle.eigen.specs.Chases.{chased}
 abbrev pub forward : {R : Type 0} → ℕ → Option (Normed R) → List (Turn R)
 forward start None = []
 forward start (Some found) = turn_of start found.rotation.c found.rotation.s Forward ∷ []
-
--- whether there is something, and what it leaves of two choices
-abbrev pub exists : {A : Type 0} → Option A → Bool
-exists None = false
-exists (Some x) = true
 
 module _ {R : Type 0} (ops : Ops R R) (real : RealOps R) where
   -- of an eigenvector of a block of two, the one less likely to have lost its digits
@@ -49,7 +45,7 @@ module _ {R : Type 0} (ops : Ops R R) (real : RealOps R) (tolerance : R) where
   pair_left start values offs = pair_put start values offs (pair_at ops real start values offs)
 
   abbrev pub pair_exists : ℕ → List R → List R → Bool
-  pair_exists start values offs = exists (pair_at ops real start values offs)
+  pair_exists start values offs = is_some (pair_at ops real start values offs)
 
   -- what a pass leaves
   abbrev pub pass_left : ℕ → ℕ → List R → List R → Turning R

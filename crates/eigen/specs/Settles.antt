@@ -1,5 +1,5 @@
 -- Settling: what is refused before a run, and the run. Definitions only.
-use Rattle.std.specs.Prelude.{ℕ, ◌+◌, Bool, true, false, cond, not, ◌&&◌, ◌||◌, List, [], length, ◌==◌, nat_le}
+use Rattle.std.specs.Prelude.{ℕ, ◌+◌, Bool, cond, not, ◌&&◌, ◌||◌, List, [], length, ◌==◌, nat_le}
 use Rattle.scalar.specs.Ops.{Ops, RealOps}
 use Rattle.fault.specs.Refusals.{refused}
 use Rattle.rows.specs.Keepers.{Answer, given, denied}

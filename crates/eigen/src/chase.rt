@@ -1,5 +1,5 @@
 // The chase of a block: rotation after rotation moves the bulge down until it leaves the block.
-ghost use Rattle.std.specs.Prelude.{◌≡◌, ◌+◌, ◌<◌, ◌≤◌, length, slice_set};
+ghost use Rattle.std.specs.Prelude.{◌≡◌, ◌<◌, ◌≤◌, length, slice_set};
 ghost use Rattle.rows.specs.Turns.{turn_of};
 ghost use Rattle.rows.specs.Keepers.{kept_turned};
 ghost use Rattle.rows.specs.declared.direction.Direction.TheVariants.{Back};

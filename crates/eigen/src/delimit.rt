@@ -1,5 +1,5 @@
 // The search for the block of a tridiagonal form that the next pass works on.
-ghost use Rattle.std.specs.Prelude.{◌≡◌, ◌+◌, ◌<◌, ◌≤◌, length};
+ghost use Rattle.std.specs.Prelude.{◌≡◌, ◌<◌, ◌≤◌, length};
 ghost use Rattle.eigen.specs.Blocks.{bound, above, within, negligible, end_from, start_from, cut_at, block_from, offs_from};
 ghost use Rattle.eigen.specs.Blocks.{Falls};
 ghost use Rattle.eigen.specs.Forms.{SameBuffers};
@@ -7,6 +7,7 @@ ghost use Rattle.eigen.specs.Forms.{SameBuffers};
 use crate::form::Tridiagonal;
 use scalar::{Arithmetic, RealScalar};
 
+// That a block lies within its form is said in the contracts: it is a fact about the two.
 #[derive(Clone, Copy)]
 pub(crate) struct Block {
     pub(crate) start: usize,

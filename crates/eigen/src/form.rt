@@ -2,6 +2,7 @@
 ghost use Rattle.std.specs.Prelude.{◌≡◌, ◌+◌, length};
 
 // A tridiagonal form in the buffers that were handed in: values on the diagonal, and the entries beside it.
+// The tolerance is no field: beside the references, one of type R leaves open what stands behind them at the end (`returns` of `settle`).
 #[derive(Drop)]
 pub(crate) struct Tridiagonal<'a, R: Copy> {
     pub(crate) values: &'a mut [R],

@@ -1,8 +1,9 @@
 // One pass over a block.
 ghost use Rattle.std.specs.Prelude.{◌≡◌, ◌+◌, ◌<◌, ◌≤◌, length};
+ghost use Rattle.std.specs.Option.{is_some};
 ghost use Rattle.eigen.specs.Turnings.{kept_all};
 ghost use Rattle.eigen.specs.Forms.{SameBuffers};
-ghost use Rattle.eigen.specs.Passes.{basis_of, pair_at, basis_turns, pair_left, exists, pair_exists, pass_left, pass_end};
+ghost use Rattle.eigen.specs.Passes.{basis_of, pair_at, basis_turns, pair_left, pair_exists, pass_left, pass_end};
 
 use crate::chase::chase;
 use crate::delimit::Block;
@@ -76,7 +77,7 @@ fn settle_pair<T: Scalar, K: Keeper<T>>(
 ) -> Option<()>
     requires start_in_bounds { start < length form.old.offs.now }
     requires start_bound { start + 1 < (K.Keeper.kept keeper.old).width }
-    ensures answer { exists result ≡ pair_exists T.Real.Arithmetic.ops T.Real.RealScalar.real tolerance start
+    ensures answer { is_some result ≡ pair_exists T.Real.Arithmetic.ops T.Real.RealScalar.real tolerance start
         form.old.values.now form.old.offs.now }
     ensures values { form.new.values.now ≡ (pair_left T.Real.Arithmetic.ops T.Real.RealScalar.real tolerance start
         form.old.values.now form.old.offs.now).values }

@@ -1,5 +1,5 @@
 // The eigenvalues of a symmetric tridiagonal matrix by implicit QR steps, each a chase from a Wilkinson shift.
-ghost use Rattle.std.specs.Prelude.{◌≡◌, ◌+◌, ◌<◌, ◌≤◌, length};
+ghost use Rattle.std.specs.Prelude.{◌≡◌, length};
 ghost use Rattle.rows.specs.Keepers.{answered};
 ghost use Rattle.eigen.specs.Turnings.{kept_all};
 ghost use Rattle.eigen.specs.Forms.{SameBuffers};

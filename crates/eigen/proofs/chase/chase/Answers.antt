@@ -1,8 +1,22 @@
-use Rattle.std.proofs.Common.{◌<◌, sym, ap, ◌∙◌, arith, rules}
+use Rattle.std.proofs.Common.{◌<◌, ◌-◌, sym, refl, ap, ◌∙◌, arith, rules}
 use Rattle.rows.specs.Turns.{turn_of}
 use Rattle.rows.specs.declared.direction.Direction.TheVariants.{Back}
-use Rattle.eigen.proofs.Turned.{chase_again, chase_done, chase_whole, chase_left, chase_over, turned_width}
+use Rattle.eigen.specs.Turnings.{left_by}
+use Rattle.eigen.specs.Chases.{chase_from}
+use Rattle.eigen.proofs.Turned.{chase_again, chase_done, chase_left, chase_over, turned_width}
 use Rattle.eigen.proofs.chase.chase.Goals as goal
+
+pub chase-init : goal.chase-init
+chase-init g c =
+    let block = c.args.block in
+    let form = c.args.form.now in
+    record {
+      whole = ap (λ b. left_by g.T.Arithmetic.ops (chase_from g.T.Real.Arithmetic.ops g.T.Real.RealScalar.real block.start block.end
+          (block.end - block.start) block.start b form.values.now form.offs.now) (g.K.Keeper.kept c.args.keeper.now))
+          c.first_bulge-bulge.ensures.bulge;
+      width = refl;
+      same = search rules;
+    }
 
 pub chase-preserved : goal.chase-preserved
 chase-preserved g c =
@@ -21,22 +35,16 @@ chase-preserved g c =
 
 pub returns-after-chase : goal.returns-after-chase
 returns-after-chase g c =
-    let done = chase_done g.T.Arithmetic.ops g.T.Real.Arithmetic.ops g.T.Real.RealScalar.real c.args.block.start c.args.block.end
-    c.chase.form.values.now c.chase.form.offs.now (g.K.Keeper.kept c.chase.keeper) _
-    (chase_over g.T.Real.Arithmetic.ops g.T.Real.RealScalar.real c.args.block.start c.args.block.end c.chase.i c.chase.bulge
-    c.chase.form.values.now c.chase.form.offs.now (omega arith)) in
-    let whole = chase_whole g.T.Arithmetic.ops g.T.Real.Arithmetic.ops g.T.Real.RealScalar.real c.args.block.start c.args.block.end
-    c.first_bulge-bulge.result c.args.form.now.values.now c.args.form.now.offs.now (g.K.Keeper.kept c.args.keeper.now) _
-    c.first_bulge-bulge.ensures.bulge (sym done ∙ c.chase.invariant.whole) in
+    let over = chase_over g.T.Real.Arithmetic.ops g.T.Real.RealScalar.real c.args.block.start c.args.block.end c.chase.i
+    c.chase.bulge c.chase.form.values.now c.chase.form.offs.now (omega arith) in
+    let whole = sym (chase_done g.T.Arithmetic.ops c.chase.form.values.now c.chase.form.offs.now (g.K.Keeper.kept c.chase.keeper) _ over)
+    ∙ c.chase.invariant.whole in
     record { values = ap (λ l. l.values) whole; offs = ap (λ l. l.offs) whole; same = c.chase.invariant.same; rows = ap (λ l. l.kept) whole }
 
 pub returns-in-None : goal.returns-in-None
 returns-in-None g c =
-    let done = chase_done g.T.Arithmetic.ops g.T.Real.Arithmetic.ops g.T.Real.RealScalar.real c.args.block.start c.args.block.end
-    c.chase.form.values.now c.chase.form.offs.now (g.K.Keeper.kept c.chase.keeper) _
-    (chase_left g.T.Real.Arithmetic.ops g.T.Real.RealScalar.real c.args.block.start c.args.block.end _ c.chase.i c.chase.bulge
-    c.chase.form.values.now c.chase.form.offs.now c.in-None.ensures.rotation) in
-    let whole = chase_whole g.T.Arithmetic.ops g.T.Real.Arithmetic.ops g.T.Real.RealScalar.real c.args.block.start c.args.block.end
-    c.first_bulge-bulge.result c.args.form.now.values.now c.args.form.now.offs.now (g.K.Keeper.kept c.args.keeper.now) _
-    c.first_bulge-bulge.ensures.bulge (sym done ∙ c.chase.invariant.whole) in
+    let left = chase_left g.T.Real.Arithmetic.ops g.T.Real.RealScalar.real c.args.block.start c.args.block.end _ c.chase.i
+    c.chase.bulge c.chase.form.values.now c.chase.form.offs.now c.in-None.ensures.rotation in
+    let whole = sym (chase_done g.T.Arithmetic.ops c.chase.form.values.now c.chase.form.offs.now (g.K.Keeper.kept c.chase.keeper) _ left)
+    ∙ c.chase.invariant.whole in
     record { values = ap (λ l. l.values) whole; offs = ap (λ l. l.offs) whole; same = c.chase.invariant.same; rows = ap (λ l. l.kept) whole }

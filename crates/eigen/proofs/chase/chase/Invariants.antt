@@ -1,7 +1,7 @@
 use Rattle.std.proofs.Common.{◌≡◌, ◌-◌}
 use Rattle.eigen.specs.Forms.{SameBuffers}
 use Rattle.eigen.specs.Turnings.{left_by}
-use Rattle.eigen.specs.Chases.{chase_from}
+use Rattle.eigen.specs.Chases.{chase_from, chased}
 use Rattle.eigen.proofs.chase.chase.Given as goal
 
 abbrev pub invariant-chase : goal.invariant-chase
@@ -12,9 +12,8 @@ invariant-chase g l = record {
       l.form.values.now l.form.offs.now)
       (g.K.Keeper.kept l.keeper)
       ≡ left_by g.T.Arithmetic.ops
-      (chase_from g.T.Real.Arithmetic.ops g.T.Real.RealScalar.real l.block.start l.block.end (l.block.end - l.block.start)
-      l.block.start l.initial.bulge l.initial.form.values.now l.initial.form.offs.now)
-      (g.K.Keeper.kept l.initial.keeper);
-  width : (g.K.Keeper.kept l.keeper).width ≡ (g.K.Keeper.kept l.initial.keeper).width;
-  same : SameBuffers l.initial.form l.form;
+      (chased g.T.Real.Arithmetic.ops g.T.Real.RealScalar.real l.block.start l.block.end l.fn.form.values.now l.fn.form.offs.now)
+      (g.K.Keeper.kept l.fn.keeper);
+  width : (g.K.Keeper.kept l.keeper).width ≡ (g.K.Keeper.kept l.fn.keeper).width;
+  same : SameBuffers l.fn.form l.form;
 }

@@ -1,4 +1,4 @@
-use Rattle.std.proofs.Common.{◌≡◌, ◌≤◌, length, None, Some, Err, sym, ap, ◌∙◌, arith, rules}
+use Rattle.std.proofs.Common.{◌≡◌, ◌≤◌, length, None, Some, Err, sym, refl, ap, ◌∙◌, arith, rules}
 use Rattle.std.proofs.lemmas.Result.{err_from_is_err_and}
 use Rattle.std.specs.Option.{ok_or}
 use Rattle.std.specs.Result.{result_ok}
@@ -6,8 +6,23 @@ use Rattle.fault.specs.declared.Fault.TheVariants.{Pair}
 use Rattle.rows.specs.Keepers.{answered}
 use Rattle.eigen.specs.Iterate.{settled, not_settled, no_pair}
 use Rattle.eigen.specs.Passes.{pass_end}
-use Rattle.eigen.proofs.Running.{ended_of, ends_over, ends_single, ends_broken, ends_passed, run_ends, pass_falls}
+use Rattle.eigen.proofs.Running.{ended_of, ends_over, ends_single, ends_broken, ends_passed, run_begins, run_ends, pass_falls}
 use Rattle.eigen.proofs.symmetric_eigen.run.Goals as goal
+
+pub passes-init : goal.passes-init
+passes-init g c =
+    let form = c.args.form.now in
+    let first = c.delimit_subproblem-block in
+    record {
+      whole = run_begins g.T.Arithmetic.ops g.T.Real.Arithmetic.ops g.T.Real.RealScalar.real c.args.tolerance c.args.limit
+          (length form.values.now) (length form.offs.now) form.values.now first.new.self.values.now form.offs.now
+          first.new.self.offs.now first.result (g.K.Keeper.kept c.args.keeper.now) (omega (arith, form.lengths))
+          first.ensures.values first.ensures.offs first.ensures.block;
+      width = refl;
+      ordered = first.ensures.ordered;
+      inside = omega (arith, first.ensures.below, first.ensures.same.length);
+      same = first.ensures.same;
+    }
 
 pub returns-then-block : goal.returns-then-block
 returns-then-block g c =
@@ -15,15 +30,11 @@ returns-then-block g c =
     let p = g.T.Real.Arithmetic.ops in
     let q = g.T.Real.RealScalar.real in
     let form = c.args.form.now in
-    let end = run_ends o p q c.args.tolerance c.args.limit (length form.values.now) (length form.offs.now) c.args.largest
-    form.values.now c.delimit_subproblem-block.new.self.values.now form.offs.now c.delimit_subproblem-block.new.self.offs.now
-    c.delimit_subproblem-block.result (g.K.Keeper.kept c.args.keeper.now)
+    let end = run_ends o p q c.args.tolerance c.args.limit (length form.values.now) c.args.largest form.values.now form.offs.now
+    (g.K.Keeper.kept c.args.keeper.now)
     (ended_of (settled c.passes.count) c.passes.form.values.now c.passes.form.offs.now (g.K.Keeper.kept c.passes.keeper))
-    (omega (arith, form.lengths)) c.delimit_subproblem-block.ensures.values c.delimit_subproblem-block.ensures.offs
-    c.delimit_subproblem-block.ensures.block _
-    (ends_single o p q c.args.tolerance c.args.limit c.passes.count c.passes.form.values.now c.passes.form.offs.now c.passes.block
-    (g.K.Keeper.kept c.passes.keeper) c.passes-test.true c.if-block.true)
-    c.passes.invariant.whole in
+    (sym (ends_single o p q c.args.tolerance c.args.limit c.passes.count c.passes.form.values.now c.passes.form.offs.now c.passes.block
+    (g.K.Keeper.kept c.passes.keeper) c.passes-test.true c.if-block.true) ∙ c.passes.invariant.whole) in
     record { answer = end.0; values = c.scale_values.ensures.values ∙ end.1; offs = end.2; same = search rules; rows = end.3 }
 
 pub returns-in_err-end : goal.returns-in_err-end
@@ -33,17 +44,13 @@ returns-in_err-end g c =
     let q = g.T.Real.RealScalar.real in
     let form = c.args.form.now in
     let none : c.pass.result ≡ None = c.ok_or.ensures.ok_part ∙ ap result_ok c.in_err-end.was in
-    let end = run_ends o p q c.args.tolerance c.args.limit (length form.values.now) (length form.offs.now) c.args.largest
-    form.values.now c.delimit_subproblem-block.new.self.values.now form.offs.now c.delimit_subproblem-block.new.self.offs.now
-    c.delimit_subproblem-block.result (g.K.Keeper.kept c.args.keeper.now)
+    let end = run_ends o p q c.args.tolerance c.args.limit (length form.values.now) c.args.largest form.values.now form.offs.now
+    (g.K.Keeper.kept c.args.keeper.now)
     (ended_of (no_pair c.passes.count) c.pass.new.form.values.now c.pass.new.form.offs.now (g.K.Keeper.kept c.pass.new.keeper))
-    (omega (arith, form.lengths)) c.delimit_subproblem-block.ensures.values c.delimit_subproblem-block.ensures.offs
-    c.delimit_subproblem-block.ensures.block _
-    (ends_broken o p q c.args.tolerance c.args.limit c.passes.count c.passes.form.values.now c.pass.new.form.values.now
+    (sym (ends_broken o p q c.args.tolerance c.args.limit c.passes.count c.passes.form.values.now c.pass.new.form.values.now
     c.passes.form.offs.now c.pass.new.form.offs.now c.passes.block (g.K.Keeper.kept c.passes.keeper)
     (g.K.Keeper.kept c.pass.new.keeper) c.passes-test.true c.if-block.false (sym none ∙ c.pass.ensures.end)
-    c.pass.ensures.values c.pass.ensures.offs c.pass.ensures.rows)
-    c.passes.invariant.whole in
+    c.pass.ensures.values c.pass.ensures.offs c.pass.ensures.rows) ∙ c.passes.invariant.whole) in
     let back = err_from_is_err_and c.from_residual.result c.from_residual.ensures.1 in
     record {
       answer = ap answered (back.1 ∙ ap Err back.2 ∙ sym c.in_err-end.was ∙ c.ok_or.ensures.value
@@ -84,13 +91,9 @@ returns g c =
     let p = g.T.Real.Arithmetic.ops in
     let q = g.T.Real.RealScalar.real in
     let form = c.args.form.now in
-    let end = run_ends o p q c.args.tolerance c.args.limit (length form.values.now) (length form.offs.now) c.args.largest
-    form.values.now c.delimit_subproblem-block.new.self.values.now form.offs.now c.delimit_subproblem-block.new.self.offs.now
-    c.delimit_subproblem-block.result (g.K.Keeper.kept c.args.keeper.now)
+    let end = run_ends o p q c.args.tolerance c.args.limit (length form.values.now) c.args.largest form.values.now form.offs.now
+    (g.K.Keeper.kept c.args.keeper.now)
     (ended_of (not_settled c.args.limit) c.passes.form.values.now c.passes.form.offs.now (g.K.Keeper.kept c.passes.keeper))
-    (omega (arith, form.lengths)) c.delimit_subproblem-block.ensures.values c.delimit_subproblem-block.ensures.offs
-    c.delimit_subproblem-block.ensures.block _
-    (ends_over o p q c.args.tolerance c.args.limit c.passes.count c.passes.form.values.now c.passes.form.offs.now c.passes.block
-    (g.K.Keeper.kept c.passes.keeper) c.passes.auto.count-end c.passes-test.false)
-    c.passes.invariant.whole in
+    (sym (ends_over o p q c.args.tolerance c.args.limit c.passes.count c.passes.form.values.now c.passes.form.offs.now c.passes.block
+    (g.K.Keeper.kept c.passes.keeper) c.passes.auto.count-end c.passes-test.false) ∙ c.passes.invariant.whole) in
     record { answer = end.0; values = end.1; offs = end.2; same = search rules; rows = end.3 }

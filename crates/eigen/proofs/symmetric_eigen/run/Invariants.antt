@@ -1,7 +1,7 @@
-use Rattle.std.proofs.Common.{◌≡◌, ◌≤◌, length}
+use Rattle.std.proofs.Common.{◌≡◌, ◌-◌, ◌≤◌, length}
 use Rattle.eigen.specs.Forms.{SameBuffers}
 use Rattle.eigen.specs.Iterate.{iterate}
-use Rattle.eigen.specs.Runs.{standing_of, pass_of}
+use Rattle.eigen.specs.Runs.{searched, pass_of}
 use Rattle.eigen.proofs.Running.{ends_from, ended_by}
 use Rattle.eigen.proofs.symmetric_eigen.run.Given as goal
 
@@ -11,9 +11,10 @@ invariant-passes g l = record {
   whole : ends_from g.T.Arithmetic.ops g.T.Real.Arithmetic.ops g.T.Real.RealScalar.real l.tolerance l.limit
       l.count l.form.values.now l.form.offs.now l.block (g.K.Keeper.kept l.keeper)
       ≡ ended_by g.T.Arithmetic.ops (iterate (pass_of g.T.Real.Arithmetic.ops g.T.Real.RealScalar.real l.tolerance) l.limit 0
-      (standing_of l.initial.form.values.now l.initial.form.offs.now l.initial.block)) (g.K.Keeper.kept l.initial.keeper);
-  width : (g.K.Keeper.kept l.keeper).width ≡ (g.K.Keeper.kept l.initial.keeper).width;
+      (searched g.T.Real.Arithmetic.ops g.T.Real.RealScalar.real l.tolerance l.fn.form.values.now l.fn.form.offs.now
+      (length l.fn.form.values.now - 1))) (g.K.Keeper.kept l.fn.keeper);
+  width : (g.K.Keeper.kept l.keeper).width ≡ (g.K.Keeper.kept l.fn.keeper).width;
   ordered : l.block.start ≤ l.block.end;
   inside : l.block.end ≤ length l.form.offs.now;
-  same : SameBuffers l.initial.form l.form;
+  same : SameBuffers l.fn.form l.form;
 }
