@@ -130,6 +130,7 @@ impl Desk {
         Ok(Applied::Closes(Closed { asked, table }))
     }
 
+    // Apart from `apply`, whose clause `unchanged` the prover leaves open in each arm.
     fn applied(self, heap: Global, command: Command<'_>) -> Result<Applied, Stopped>
         ensures outcome { after_of result ≡ applying (roomy (after_of result)) (desk_of self) (said command.entry) }
     {
