@@ -17,8 +17,9 @@ fn read_sheet(rt: &HostRuntime) -> anyhow::Result<Vec<u8>> {
 
 fn main(rt: HostRuntime) -> anyhow::Result<()> {
     let sheet = read_sheet(&rt)?;
-    let listing = list_sheet(rt.alloc(), &sheet)
-        .map_err(|_| anyhow!("no memory for the sheet's tables"))?;
+    let listing = list_sheet(rt.alloc(), &sheet).map_err(|_| anyhow!(
+        "no memory for the sheet's tables"
+    ))?;
     rt.print(listing)?;
     Ok(())
 }

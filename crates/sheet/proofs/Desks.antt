@@ -80,8 +80,8 @@ module _ {C : Type 0} (state : Typed C Float → State) (stands : (j : Typed C F
       moved None h = tt
       moved (Some known) h = ap state h
 
-  begun : (ops : Ops C Float) → SizeLaws ops real_rules → ((j : Typed C Float) → Gathered ops real_rules j → OnDesk (state j)) → (side : ℕ) (room : Bool) →
-      Sound idle (starting state (opened ops side room))
+  begun : (ops : Ops C Float) → SizeLaws ops real_rules → ((j : Typed C Float) → Gathered ops real_rules j → OnDesk (state j)) →
+      (side : ℕ) (room : Bool) → Sound idle (starting state (opened ops side room))
   begun ops sizes f side room = by_side (is_side side) room
     where
       by_side : (b room : Bool) → Sound idle (starting state (cond b (cond room (made (blank ops side)) starved) (turned (refused 13 []))))

@@ -10,14 +10,16 @@ use Rattle.sheet.specs.Laws.{gathered_table, Gathers}
 use Rattle.sheet.specs.Sheets.{Run, following, running, run_from}
 use Rattle.sheet.proofs.Desks.{OnDesk, Leaves, applied_gathered}
 
-followed : (on : State → Run) (place : ℕ) (a : After) → Leaves a → ((st : State) → OnDesk st → AllByRecursion gathered_table (on st).tables) →
+followed : (on : State → Run) (place : ℕ) (a : After) → Leaves a →
+    ((st : State) → OnDesk st → AllByRecursion gathered_table (on st).tables) →
     AllByRecursion gathered_table (following on place a).tables
 followed on place (goes st) h f = f st h
 followed on place (closes t) h f = (h, f idle tt)
 followed on place (stops w st) h f = tt
 
 ran : (on : ℕ → State → Run) (place : ℕ) (st : State) (f : Found) → OnDesk st →
-    ((n : ℕ) (st : State) → OnDesk st → AllByRecursion gathered_table (on n st).tables) → AllByRecursion gathered_table (running on place st f).tables
+    ((n : ℕ) (st : State) → OnDesk st → AllByRecursion gathered_table (on n st).tables) →
+    AllByRecursion gathered_table (running on place st f).tables
 ran on place st nothing h f = tt
 ran on place st (wrong w) h f = tt
 ran on place st (found s n) h f = followed (on n) place (applying true st s) (applied_gathered true st s h) (f n)

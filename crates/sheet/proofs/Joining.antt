@@ -66,7 +66,7 @@ why_of w (Some x) = x.why
 final_from : (bs t : List ℕ) (skip p : ℕ) (st : State) (x : Stop) → (run_from skip p st bs).refusal ≡ Some x → (x.why ≡ cut_off → ⊥) →
     run_from skip p st (bs ++ t) ≡ run_from skip p st bs
 unfolding run_from why_of
-final_from [] t skip p st x e not = let z : ◌≡◌ {A = ℕ} 0 1 = cc in let none : ⊥ = omega arith in absurd none
+final_from [] t skip p st x e not = absurd (cc)
 final_from (b ∷ bs) t (suc skip) p st x e not = final_from bs t skip (p + 1) st x e not
 final_from (b ∷ bs) t zero p st x e not =
     ⊎_elim
@@ -89,7 +89,7 @@ followed_on : (on on' : State → Run) (go : State → Run) (place : ℕ) (a : A
     following on' place a ≡ and_then (following on place a) (go (following on place a).desk)
 followed_on on on' go place (goes st) e f = f st e
 followed_on on on' go place (closes t) e f = ap (listing t) (f idle e)
-followed_on on on' go place (stops w st) e f = let z : ◌≡◌ {A = ℕ} 0 1 = cc in let none : ⊥ = omega arith in absurd none
+followed_on on on' go place (stops w st) e f = absurd (cc)
 
 ran_on : (on on' : ℕ → State → Run) (go : State → Run) (len place : ℕ) (st : State) (f : Found) → Within len f →
     (running on place st f).refusal ≡ None →
@@ -97,7 +97,7 @@ ran_on : (on on' : ℕ → State → Run) (go : State → Run) (len place : ℕ)
     running on' place st f ≡ and_then (running on place st f) (go (running on place st f).desk)
 unfolding Within
 ran_on on on' go len place st nothing w e h = absurd w
-ran_on on on' go len place st (wrong y) w e h = let z : ◌≡◌ {A = ℕ} 0 1 = cc in let none : ⊥ = omega arith in absurd none
+ran_on on on' go len place st (wrong y) w e h = absurd (cc)
 ran_on on on' go len place st (found s n) w e h = followed_on (on n) (on' n) go place (applying true st s) e (λ st f. h n st w f)
 
 next_byte : (p : ℕ) (bs : List ℕ) → p + 1 + length bs ≡ p + suc (length bs)
@@ -107,14 +107,14 @@ join_from : (bs t : List ℕ) (skip p : ℕ) (st : State) → skip ≤ length bs
     run_from skip p st (bs ++ t) ≡ and_then (run_from skip p st bs) (run_from 0 (p + length bs) (run_from skip p st bs).desk t)
 unfolding run_from
 join_from [] t zero p st l e = ap (λ i. run_from 0 i st t) (sym (add-zero p))
-join_from [] t (suc skip) p st l e = let none : ⊥ = omega arith in absurd none
+join_from [] t (suc skip) p st l e = absurd (omega arith)
 join_from (b ∷ bs) t (suc skip) p st l e =
     join_from bs t skip (p + 1) st (omega arith) e ∙
     ap (λ i. and_then (run_from skip (p + 1) st bs) (run_from 0 i (run_from skip (p + 1) st bs).desk t)) (next_byte p bs)
 join_from (b ∷ bs) t zero p st l e =
     ⊎_elim
     (λ cut. let y : Some (stop cut_off p) ≡ None = sym (ap (λ f. (running (λ n st. run_from n (p + 1) st bs) p st f).refusal) cut) ∙ e in
-    let z : ◌≡◌ {A = ℕ} 0 1 = cc in let none : ⊥ = omega arith in absurd none)
+    absurd (cc))
     (λ same. ap (running (λ n st. run_from n (p + 1) st (bs ++ t)) p st) same ∙
     ran_on (λ n st. run_from n (p + 1) st bs) (λ n st. run_from n (p + 1) st (bs ++ t)) (λ st. run_from 0 (p + suc (length bs)) st t)
     (length bs) p st (coded (code_of b) bs) (within (code_of b) bs) e

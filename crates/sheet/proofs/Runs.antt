@@ -56,12 +56,12 @@ turned_on : (on : State → Reading) (p q after : ℕ) (t : Table) (a : After) �
     ((st : State) → closed t after ≡ on st → p < after) → p < after
 turned_on on p q after t (goes st) l e f = f st e
 turned_on on p q after t (closes t') l e f = let same : after ≡ q = cc in omega arith
-turned_on on p q after t (stops w st) l e f = let z : ◌≡◌ {A = ℕ} 0 1 = cc in let no : ⊥ = omega arith in absurd no
+turned_on on p q after t (stops w st) l e f = absurd (cc)
 
 read_on : (on : ℕ → State → Reading) (room : Bool) (p after : ℕ) (st : State) (t : Table) (f : Found) →
     closed t after ≡ reading on room p st f → ((n : ℕ) (st : State) → closed t after ≡ on n st → p < after) → p < after
-read_on on room p after st t nothing e f = let z : ◌≡◌ {A = ℕ} 0 1 = cc in let no : ⊥ = omega arith in absurd no
-read_on on room p after st t (wrong w) e f = let z : ◌≡◌ {A = ℕ} 0 1 = cc in let no : ⊥ = omega arith in absurd no
+read_on on room p after st t nothing e f = absurd (cc)
+read_on on room p after st t (wrong w) e f = absurd (cc)
 read_on on room p after st t (found w n) e f =
     let l : p < p + 1 + n = omega arith in
     turned_on (on n) p (p + 1 + n) after t (applying room st w) l e (f n)
@@ -69,7 +69,7 @@ read_on on room p after st t (found w n) e f =
 advances : (room : Bool) (bs : List ℕ) (skip p after : ℕ) (st : State) (t : Table) →
     closed t after ≡ table_from room skip p st bs → p < after
 unfolding table_from
-advances room [] skip p after st t e = let z : ◌≡◌ {A = ℕ} 0 1 = cc in let no : ⊥ = omega arith in absurd no
+advances room [] skip p after st t e = absurd (cc)
 advances room (b ∷ bs) (suc skip) p after st t e = omega (arith, advances room bs skip (p + 1) after st t e)
 advances room (b ∷ bs) zero p after st t e =
     read_on (λ n st. table_from room n (p + 1) st bs) room p after st t (coded (code_of b) bs) e
@@ -79,7 +79,7 @@ nowhere : (room : Bool) (s : List ℕ) (p after : ℕ) (t : Table) → closed t 
 unfolding table_from
 nowhere room s p after t e out =
     let f : closed t after ≡ ended = e ∙ ap (table_from room 0 p idle) (drop_all p s out) in
-    let z : ◌≡◌ {A = ℕ} 0 1 = cc in omega arith
+    cc
 
 -- What is left falls with each table.
 pub fewer : (room : Bool) (s : List ℕ) (p after : ℕ) (t : Table) → closed t after ≡ table_from room 0 p idle (drop p s) →
@@ -91,7 +91,7 @@ fewer room s p after t e =
 -- A refusal that has a number is no want of memory.
 pub numbered_room : (w : Why) (n : ℕ) → Some n ≡ numbered w → room_for w ≡ true
 numbered_room (rule known) n e = refl
-numbered_room memory n e = let z : ◌≡◌ {A = ℕ} 0 1 = cc in let no : ⊥ = omega arith in absurd no
+numbered_room memory n e = absurd (cc)
 
 -- Where the lister stands: what it has and what is left give the whole.
 pub record Lists (s : List ℕ) (hs : List Heading) (p : ℕ) : Type 0 where

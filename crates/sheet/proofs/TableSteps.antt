@@ -72,9 +72,9 @@ past s i h = ap (at i) (at_drop_all decode s i h)
 
 -- Where a command stands, and how far it reaches.
 nexts : (i p : ℕ) (w : Said) (after : ℕ) (f : Found) → next p w after ≡ at i f → (p ≡ i) × (i < after)
-nexts i p w after nothing e = let z : ◌≡◌ {A = ℕ} 0 1 = cc in let no : ⊥ = omega arith in absurd no
+nexts i p w after nothing e = absurd (cc)
 nexts i p w after (found s n) e = let ends : after ≡ i + 1 + n = cc in (cc, omega arith)
-nexts i p w after (wrong y) e = let z : ◌≡◌ {A = ℕ} 0 1 = cc in let no : ⊥ = omega arith in absurd no
+nexts i p w after (wrong y) e = absurd (cc)
 
 pub here : (s : List ℕ) (i p after : ℕ) (w : Said) → next p w after ≡ at i (decode (drop i s)) → p ≡ i
 here s i p after w e = (nexts i p w after (decode (drop i s)) e).0
@@ -85,7 +85,7 @@ falls s i p after w e =
     ⊎_elim (λ inside. omega (arith, (nexts i p w after (decode (drop i s)) e).1)) (λ out. absurd (none out)) (cases_lt i (length s))
   where
     none : length s ≤ i → ⊥
-    none out = let z = e ∙ past s i out in let no : ◌≡◌ {A = ℕ} 0 1 = cc in omega arith
+    none out = let z = e ∙ past s i out in cc
 
 -- No byte wants memory.
 wrong_room : Found → Bool
@@ -109,8 +109,8 @@ decode_room (b ∷ rest) = coded_room (code_of b)
 
 wrong_has_room : (i p : ℕ) (y : Why) (f : Found) → wrong_room f ≡ true → refuses y p ≡ at i f → room_for y ≡ true
 unfolding wrong_room
-wrong_has_room i p y nothing h e = let z : ◌≡◌ {A = ℕ} 0 1 = cc in let no : ⊥ = omega arith in absurd no
-wrong_has_room i p y (found s n) h e = let z : ◌≡◌ {A = ℕ} 0 1 = cc in let no : ⊥ = omega arith in absurd no
+wrong_has_room i p y nothing h e = absurd (cc)
+wrong_has_room i p y (found s n) h e = absurd (cc)
 wrong_has_room i p y (wrong w) h e = let same : y ≡ w = cc in ap room_for same ∙ h
 
 module _ (s : List ℕ) (place i : ℕ) (st : State) (r : Reads s place i st) where

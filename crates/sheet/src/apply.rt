@@ -4,8 +4,7 @@ ghost use Rattle.std.specs.Prelude.{◌≡◌};
 ghost use Rattle.job.specs.Rejections.{reported};
 ghost use Rattle.sheet.specs.Commands.{said};
 ghost use Rattle.sheet.specs.Desk.{after_of, applying, begun, closing, desk_of, enters, enters_outline, limits, off_real};
-ghost use Rattle.sheet.specs.Desk.{open_of, starting_kind, starts, state_of, stops, tolerates, typing};
-ghost use Rattle.sheet.specs.Desk.{roomy};
+ghost use Rattle.sheet.specs.Desk.{open_of, roomy, starting_kind, starts, state_of, stops, tolerates, typing};
 ghost use Rattle.sheet.specs.Faults.{why};
 ghost use Rattle.sheet.specs.Laws.{Unchanged};
 
@@ -40,8 +39,8 @@ fn open_table(heap: Global, kind: u8, side: usize) -> Result<Table, SheetFault>
     ensures outcome { begun result ≡ starting_kind (roomy (begun result)) kind side }
 {
     match Kind::try_from(kind)? {
-        Kind::Real => Ok(Table::Real(Job::<f64>::open(heap, side)?)),
-        Kind::Outline => Ok(Table::Outline(Job::<Complex<f64>>::open(heap, side)?)),
+        Kind::Real => Ok(Table::Real(Job::open(heap, side)?)),
+        Kind::Outline => Ok(Table::Outline(Job::open(heap, side)?)),
     }
 }
 
@@ -131,17 +130,22 @@ impl Desk {
         Ok(Applied::Closes(Closed { asked, table }))
     }
 
+    // Apart from `apply`, whose clause `unchanged` the prover leaves open in each arm.
     fn applied(self, heap: Global, command: Command<'_>) -> Result<Applied, Stopped>
         ensures outcome { after_of result ≡ applying (roomy (after_of result)) (desk_of self) (said command.entry) }
     {
         match command {
-            Command::Open(it) => self.open(heap, it.u8_at(0), it.u16_at(1) as usize),
+            Command::Open(it) => self.open(heap, it.u8_at(0), usize::from(it.u16_at(1))),
             Command::Entry(it) => {
-                self.enter(it.u16_at(0) as usize, it.u16_at(2) as usize, it.f64_at(4))
+                self.enter(
+                    usize::from(it.u16_at(0)),
+                    usize::from(it.u16_at(2)),
+                    it.f64_at(4),
+                )
             }
             Command::OutlineEntry(it) => self.enter_outline(
-                it.u16_at(0) as usize,
-                it.u16_at(2) as usize,
+                usize::from(it.u16_at(0)),
+                usize::from(it.u16_at(2)),
                 it.f64_at(4),
                 it.f64_at(12),
             ),

@@ -18,6 +18,7 @@ pub enum Code {
     Vectors,
 }
 
+// Each case borrows its operands: the form of a command is fixed, so it is no code with operands beside it.
 #[derive(Clone, Copy)]
 pub enum Command<'a> {
     Open(Operands<'a>),
@@ -93,10 +94,7 @@ pub fn next_command(sheet: &[u8], place: usize) -> Result<Option<Next<'_>>, Refu
     let Some((byte, rest)) = tail(sheet, place).split_first() else {
         return Ok(None);
     };
-    let code = match Code::try_from(*byte) {
-        Ok(code) => code,
-        Err(fault) => return Err(fault.at(place)),
-    };
+    let code = Code::try_from(*byte).map_err(|fault| fault.at(place))?;
     let Some(bytes) = rest.get(..code.operand_bytes()) else {
         return Err(SheetFault::Cut.at(place));
     };

@@ -29,7 +29,7 @@ impl Closed {
     }
 }
 
-// The heading of a table that is let go.
+// The heading of a table that is let go: here, so that the loop does not part by the kind of table that it drops.
 fn heading_of(table: Closed) -> Heading
     ensures heading { result ≡ heading_of (table_of table) }
 {

@@ -11,8 +11,8 @@ use crate::reading::Reading;
 use crate::sheet_fault::Refusal;
 use std::alloc::Global;
 
-#[tactic(auto, using(crate::proofs::Runs::table_first, crate::proofs::Gathering::closed_gathered))]
 // The next table that the sheet closes from `place` on. A table still open at the sheet's end is none.
+#[tactic(auto, using(crate::proofs::Runs::table_first, crate::proofs::Gathering::closed_gathered))]
 pub fn next_table(heap: Global, sheet: &[u8], place: usize) -> Result<Option<Reading>, Refusal>
     ensures reading { reading_of result ≡ table_from (had_room (reading_of result)) 0 place idle (drop place sheet.now) }
     // the largest size gathered for the table is that of the whole table
@@ -23,6 +23,7 @@ pub fn next_table(heap: Global, sheet: &[u8], place: usize) -> Result<Option<Rea
     let mut desk = Desk { table: None };
     let mut at = place;
     'commands: while let Some(next) = next_command(sheet, at)? {
+        // one match for all that a command comes to: `map_err` and `?` would leave a second one
         match desk.apply(heap, next.command) {
             Ok(Applied::Goes(still)) => {
                 desk = still;

@@ -7,7 +7,7 @@ use anyhow::anyhow;
 use sheet::list_sheet;
 use std::alloc::{AllocError, Global};
 
-// What a hexadecimal digit stands for, and 0 for anything else.
+// What a hexadecimal digit stands for, and 0 for anything else (`char::to_digit` takes small letters too).
 fn digit(b: u8) -> u8
     ensures small { result < 16 }
 {
@@ -28,8 +28,7 @@ fn bytes_of(heap: Global, text: &[u8]) -> Result<Vec<u8>, AllocError> {
 
 // The listing of a sheet, in one line: each newline is a bar.
 fn list(heap: Global, sheet: &[u8]) -> anyhow::Result<String> {
-    let listing =
-        list_sheet(heap, sheet).map_err(|_| anyhow!("no memory for the sheet's tables"))?;
+    let listing = list_sheet(heap, sheet).map_err(|_| anyhow!("no memory for the sheet's tables"))?;
     let line = listing
         .text(heap)?
         .chars()
