@@ -99,13 +99,14 @@ fine = fin false 1 (negsuc 51)
 abbrev pub cases : List Case
 cases =
     refuses 0 [] fine 1 (refused 1 [])
-    ∷ (settles_with 1 (minus 3 0 ∷ []) fine 1 (minus 3 0 ∷ []) 0 ((whole 1 0 ∷ []) ∷ [])
-    ∷ (settles 2 (o ∷ (o ∷ (o ∷ (o ∷ [])))) fine 1 (o ∷ (o ∷ [])) 0
-    ∷ (refuses 2 (o ∷ (whole 1 0 ∷ (whole 1 0 ∷ (o ∷ [])))) fine 1 (refused 7 (1 ∷ []))
-    ∷ (settles 2 (o ∷ (whole 1 0 ∷ (whole 1 0 ∷ (o ∷ [])))) fine 2 (whole 1 0 ∷ (minus 1 0 ∷ [])) 1
-    ∷ (settles 2 (o ∷ (whole 5 0 ∷ (o ∷ (o ∷ [])))) fine 2 (whole 5 0 ∷ (minus 5 0 ∷ [])) 1
-    ∷ (settles 2 (o ∷ (o ∷ (whole 5 0 ∷ (o ∷ [])))) fine 1 (o ∷ (o ∷ [])) 0
-    ∷ (refuses 1 (minus 3 0 ∷ []) (minus 1 0) 1 (refused 4 [])
-    ∷ (settles 1 (minus 3 0 ∷ []) (fin true 0 (pos 0)) 1 (minus 3 0 ∷ []) 0
-    ∷ (roots (whole 1 1) (from_bits binary64 0x3FF6A09E667F3BCD)
-    ∷ (turns (turn_of 0 o (whole 1 0) Forward) (whole 1 0 ∷ (o ∷ [])) (o ∷ (minus 1 0 ∷ [])) ∷ []))))))))))
+    ∷ settles_with 1 (minus 3 0 ∷ []) fine 1 (minus 3 0 ∷ []) 0 ((whole 1 0 ∷ []) ∷ [])
+    ∷ settles 2 (o ∷ o ∷ o ∷ o ∷ []) fine 1 (o ∷ o ∷ []) 0
+    ∷ refuses 2 (o ∷ whole 1 0 ∷ whole 1 0 ∷ o ∷ []) fine 1 (refused 7 (1 ∷ []))
+    ∷ settles 2 (o ∷ whole 1 0 ∷ whole 1 0 ∷ o ∷ []) fine 2 (whole 1 0 ∷ minus 1 0 ∷ []) 1
+    ∷ settles 2 (o ∷ whole 5 0 ∷ o ∷ o ∷ []) fine 2 (whole 5 0 ∷ minus 5 0 ∷ []) 1
+    ∷ settles 2 (o ∷ o ∷ whole 5 0 ∷ o ∷ []) fine 1 (o ∷ o ∷ []) 0
+    ∷ refuses 1 (minus 3 0 ∷ []) (minus 1 0) 1 (refused 4 [])
+    ∷ settles 1 (minus 3 0 ∷ []) (fin true 0 (pos 0)) 1 (minus 3 0 ∷ []) 0
+    ∷ roots (whole 1 1) (from_bits binary64 0x3FF6A09E667F3BCD)
+    ∷ turns (turn_of 0 o (whole 1 0) Forward) (whole 1 0 ∷ o ∷ []) (o ∷ minus 1 0 ∷ [])
+    ∷ []

@@ -1,5 +1,5 @@
 -- What is known of a table that is reduced in buffers made for its side.
-use Rattle.std.proofs.Common.{◌≡◌, ℕ, ◌-◌, ◌*◌, ◌<◌, ◌≤◌, true, false, eqb, ltb, ◌⊎◌, List, [], length, Some, None, Option, sym, refl, ap, ◌∙◌, ⊎_elim, arith}
+use Rattle.std.proofs.Common.{◌≡◌, ℕ, ◌-◌, ◌*◌, ◌<◌, ◌≤◌, true, false, eqb, ltb, ◌⊎◌, List, [], length, Some, None, Option, sym, refl, ap, ◌∙◌, ⊎_elim}
 use Rattle.std.proofs.lemmas.Bool.{or_left, or_right, eq-eqb, lt-ltb, eqb-true, and_parts, cases_Bool}
 use Rattle.fault.specs.Refusals.{Refusal, refused}
 use Rattle.tridiagonal.specs.Checks.{side_refused, lengths_agree, reduce_refusal, refusal_for}
@@ -8,9 +8,6 @@ use Rattle.tridiagonal.specs.Outcome.{Reduced, reduce_outcome, unless_refused}
 use Rattle.tridiagonal.specs.Reduce.{largest_size, reduced_table, values_of, offs_of, signs_of}
 use Rattle.decomposition.specs.Solutions.{Form, table_refusal, reduced_form}
 use Rattle.decomposition.specs.Forms.{Fits}
-
-some_none : {A : Type 0} {a : A} → Some a ≡ None → ⊥
-some_none e = let z : ◌≡◌ {A = ℕ} 0 1 = cc in omega arith
 
 module _ {C R : Type 0} (K : Kind C R) (n : ℕ) (t : List C) where
   side_refusal : side_refused n ≡ true → table_refusal K n t ≡ Some (refused 1 [])
@@ -32,33 +29,27 @@ module _ {C R : Type 0} (K : Kind C R) (n : ℕ) (t : List C) where
   -- a table that is not refused is whole
   table_whole : table_refusal K n t ≡ None → length t ≡ n * n
   table_whole none =
-      ⊎_elim (λ (e : side_refused n ≡ true). absurd (some_none (sym (side_refusal e) ∙ none)))
+      ⊎_elim (λ (e : side_refused n ≡ true). cc (side_refusal e))
       (λ (e : side_refused n ≡ false).
       ⊎_elim
       (λ (f : lengths_agree n (length t) n (n - 1) (n - 1) (n - 1) ≡ true).
       eqb-true (length t) (n * n) (and_parts (eqb (length t) (n * n)) _ f).0)
-      (λ (f : lengths_agree n (length t) n (n - 1) (n - 1) (n - 1) ≡ false).
-      absurd (some_none (sym (length_refusal e f) ∙ none)))
+      (λ (f : lengths_agree n (length t) n (n - 1) (n - 1) (n - 1) ≡ false). cc (length_refusal e f))
       (cases_Bool (lengths_agree n (length t) n (n - 1) (n - 1) (n - 1))))
       (cases_Bool (side_refused n))
 
 pub accepted : {R : Type 0} (o : Option Refusal) (a n : ℕ) (b l : R) → Reduced a b ≡ reduce_outcome o n l → (o ≡ None) × ((a ≡ n) × (b ≡ l))
 accepted None a n b l e = (refl, (cc, cc))
-accepted (Some why) a n b l e = let z : ◌≡◌ {A = ℕ} 0 1 = cc in let no : ⊥ = omega arith in absurd no
+accepted (Some why) a n b l e = absurd (cc)
 
-unless_none : {A : Type 0} (o : Option Refusal) (was made now : A) → o ≡ None → now ≡ unless_refused o was made → now ≡ made
+pub unless_none : {A : Type 0} (o : Option Refusal) (was made now : A) → o ≡ None → now ≡ unless_refused o was made → now ≡ made
 unless_none o was made now none is = rw none at is
 
 -- the form that a reduction leaves, from the slices that it was given and those that it left
 module _ {C R : Type 0} (K : Kind C R) (n : ℕ) (t t0 : List C) (v0 f0 : List R) (s0 c0 : List C) where
   same_refusal : t0 ≡ t → length v0 ≡ n → length f0 ≡ n - 1 → length s0 ≡ n - 1 → length c0 ≡ n - 1 →
       refusal_for K n t0 v0 f0 s0 c0 ≡ table_refusal K n t
-  same_refusal et ev ef es ec =
-      ap (λ (k : ℕ). reduce_refusal K n t0 k (length f0) (length s0) (length c0)) ev
-      ∙ ap (λ (k : ℕ). reduce_refusal K n t0 n k (length s0) (length c0)) ef
-      ∙ ap (λ (k : ℕ). reduce_refusal K n t0 n (n - 1) k (length c0)) es
-      ∙ ap (λ (k : ℕ). reduce_refusal K n t0 n (n - 1) (n - 1) k) ec
-      ∙ ap (λ (u : List C). reduce_refusal K n u n (n - 1) (n - 1) (n - 1)) et
+  same_refusal et ev ef es ec = cc
 
   pub reduces : (side : ℕ) (largest : R) (t1 : List C) (v1 f1 : List R) (s1 : List C) →
       t0 ≡ t → length v0 ≡ n → length f0 ≡ n - 1 → length s0 ≡ n - 1 → length c0 ≡ n - 1 →

@@ -1,11 +1,10 @@
 -- From the run of a settling to the solution.
-use Rattle.std.proofs.Common.{◌≡◌, ℕ, zero, suc, ◌*◌, ◌<◌, ◌≤◌, true, false, ◌&&◌, eqb, leb, List, [], map, length, None, Option, sym, refl, ap, ◌∙◌, arith}
-use Rattle.std.proofs.lemmas.Bool.{and_from, le-leb, eq-eqb, cond-true}
+use Rattle.std.proofs.Common.{◌≡◌, ℕ, zero, suc, ◌*◌, ◌<◌, ◌≤◌, true, false, List, [], map, length, None, sym, refl, ap, ◌∙◌, arith}
+use Rattle.std.proofs.lemmas.Bool.Decides.{nat_tests}
 use Rattle.std.proofs.lemmas.List.FromFn.{length-map-range_with_len}
 use Rattle.std.proofs.lemmas.List.{length-map}
-use Rattle.fault.specs.Refusals.{Refusal}
 use Rattle.rows.specs.Keepers.{Kept}
-use Rattle.rows.specs.Makes.{width_fits, count_fits, no_rows_width, all_rows_fit, all_rows, row_of, rows_of}
+use Rattle.rows.specs.Makes.{all_rows_fit, all_rows, row_of}
 use Rattle.rows.specs.Turns.{turned_all}
 use Rattle.rows.proofs.Held.{all_rows_held}
 use Rattle.tridiagonal.specs.Assemble.{assemble_refusal, matrix_q}
@@ -18,17 +17,10 @@ use Rattle.eigen.specs.Settles.{settle_of}
 use Rattle.decomposition.specs.Solutions.{Form, ended_with, settled_form, settled_with, task_of, rows_of_q, by_columns, columns_kept}
 use Rattle.decomposition.specs.Forms.{Fits}
 use Rattle.decomposition.proofs.HeldRows.{length_columns}
-
-width_allowed : (n : ℕ) → 0 < n → n ≤ 512 → width_fits n ≡ true
-width_allowed n some few = and_from (leb 1 n) (leb n 512) (le-leb 1 n (omega arith)) (le-leb n 512 few)
-
-pub no_rows_width_is : (n : ℕ) → 0 < n → n ≤ 512 → no_rows_width n ≡ n
-no_rows_width_is n some few = cond-true (width_fits n) n 0 (width_allowed n some few)
+use Rattle.decomposition.proofs.Reducing.{unless_none}
 
 all_rows_of_q_fit : (n l : ℕ) → 0 < n → n ≤ 512 → l ≡ n * n → all_rows_fit n n l ≡ true
-all_rows_of_q_fit n l some few e =
-    and_from (width_fits n && count_fits n) (eqb l (n * n)) (and_from (width_fits n) (count_fits n) (width_allowed n some few) (le-leb n 512 few))
-    (eq-eqb l (n * n) e)
+all_rows_of_q_fit n l some few e = grind (arith, nat_tests)
 
 -- with a keeper of no rows there are no vectors
 pub columns_of_none : {C : Type 0} (d : C) (k : ℕ) → by_columns d [] k ≡ []
@@ -43,9 +35,6 @@ module _ {C R : Type 0} (K : Kind C R) (f : Form C R) (tolerance : R) (limit : �
   pub settled_with_none : (w : ℕ) → settled_with K (record { width = w; rows = [] }) f tolerance limit ≡ settled_form K false f tolerance limit
   settled_with_none w = ap (λ (v : List C). ended_with K v f run run.answer) (columns_of_none K.ops.zero w)
 
-unless_none : {A : Type 0} (o : Option Refusal) (was made left : A) → None ≡ o → left ≡ unless_refused o was made → left ≡ made
-unless_none o was made left none is = rw (sym none) at is
-
 -- the rows of Q, and what they are turned to
 module _ {C R : Type 0} (K : Kind C R) (f : Form C R) where
   abbrev pub held_of_q : Kept C
@@ -56,19 +45,15 @@ module _ {C R : Type 0} (K : Kind C R) (f : Form C R) where
       left ≡ unless_refused (assemble_refusal f.side t s was) was (matrix_q K f.side (lower f.side 0 f.side t) s) →
       left ≡ matrix_q K f.side (lower f.side 0 f.side f.table) f.signs
   assembled t s was left et es none is =
-      unless_none (assemble_refusal f.side t s was) was (matrix_q K f.side (lower f.side 0 f.side t) s) left none is
-      ∙ ap (λ (u : List C). matrix_q K f.side (lower f.side 0 f.side u) s) et
-      ∙ ap (matrix_q K f.side (lower f.side 0 f.side f.table)) es
+      cc (unless_none (assemble_refusal f.side t s was) was (matrix_q K f.side (lower f.side 0 f.side t) s) left (sym none) is)
 
   -- a keeper of Q's cells holds its rows
   pub rows_held : Fits f → (side : ℕ) (q : List C) (k : Kept C) → side ≡ f.side →
       q ≡ matrix_q K f.side (lower f.side 0 f.side f.table) f.signs → length q ≡ side * side →
       k ≡ all_rows K.ops.zero side side q → k ≡ held_of_q
   rows_held fits side q k es eq el ek =
-      ek ∙ ap (λ (n : ℕ). all_rows K.ops.zero n n q) es
-      ∙ all_rows_held K.ops.zero f.side f.side q
-      (all_rows_of_q_fit f.side (length q) fits.some fits.few (el ∙ ap (λ (n : ℕ). n * n) es))
-      ∙ ap (λ (cells : List C). record { width = f.side; rows = rows_of K.ops.zero f.side f.side cells }) eq
+      let fit = all_rows_of_q_fit f.side (length q) fits.some fits.few (el ∙ ap (λ (n : ℕ). n * n) es) in
+      cc (all_rows_held K.ops.zero f.side f.side q fit)
 
   pub settled_with_q : (tolerance : R) (limit : ℕ) (k : Kept C) → k ≡ held_of_q →
       settled_with K k f tolerance limit ≡ settled_form K true f tolerance limit

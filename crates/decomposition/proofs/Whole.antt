@@ -1,5 +1,5 @@
 -- A whole solution, from its form.
-use Rattle.std.proofs.Common.{◌≡◌, ℕ, Bool, true, false, List, Some, None, Err, Option, sym, refl, ap, ◌∙◌, subst}
+use Rattle.std.proofs.Common.{◌≡◌, ℕ, Bool, true, false, List, Some, None, Err, sym, refl, subst}
 use Rattle.fault.specs.Refusals.{Refusal, refusal}
 use Rattle.rows.specs.Keepers.{Answer, given, denied}
 use Rattle.tridiagonal.specs.Householder.{Kind}
@@ -14,14 +14,11 @@ module _ {C R : Type 0} (K : Kind C R) (n : ℕ) (t : List C) (tolerance : R) (l
   pub solves : (asked : Bool) (f : Form C R) → table_refusal K n t ≡ None → f ≡ reduced_form K n t →
       settled_form K asked f tolerance limit ≡ solution K asked n t tolerance limit
   unfolding solution
-  solves asked f none is =
-      ap (λ (h : Form C R). settled_form K asked h tolerance limit) is
-      ∙ ap (λ (o : Option Refusal). unless_failed K o (settled_form K asked (reduced_form K n t) tolerance limit)) (sym none)
+  solves asked f none is = rw (is, none)
 
   fails : (asked : Bool) (why : Refusal) → table_refusal K n t ≡ Some why → failed why ≡ solution K asked n t tolerance limit
   unfolding solution
-  fails asked why is =
-      ap (λ (o : Option Refusal). unless_failed K o (settled_form K asked (reduced_form K n t) tolerance limit)) (sym is)
+  fails asked why is = rw is
 
   -- what is handed on where there is no form
   pub unformed : (asked : Bool) (e : Failure) → Reduces K n t (Err e) →

@@ -55,6 +55,8 @@ fn solved<T: Scalar, K: Keeper<T>>(
 }
 
 // The eigenvalues of a table of side n, column by column, of which the lower triangle and the largest size are read.
+// The tolerance and the limit stand apart, as `settle` takes them.
+#[tactic(auto, using(crate::proofs::Whole::unformed))]
 pub fn symmetric_eigenvalues<T: Scalar>(
     heap: Global,
     n: usize,
@@ -72,6 +74,7 @@ pub fn symmetric_eigenvalues<T: Scalar>(
 }
 
 // The same with the eigenvectors.
+#[tactic(auto, using(crate::proofs::Whole::unformed, crate::proofs::Whole::same_values))]
 pub fn symmetric_eigen<T: Scalar>(
     heap: Global,
     n: usize,

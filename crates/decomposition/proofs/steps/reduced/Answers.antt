@@ -2,16 +2,8 @@ use Rattle.std.proofs.Common.{length, vec_items, ap, ◌∙◌}
 use Rattle.std.specs.Vec.{with_items}
 use Rattle.std.proofs.lemmas.List.{with_items_is}
 use Rattle.tridiagonal.specs.Householder.{kind}
-use Rattle.decomposition.proofs.Reducing.{refused_side, reduces}
+use Rattle.decomposition.proofs.Reducing.{reduces}
 use Rattle.decomposition.proofs.steps.reduced.Goals as goal
-
-pub returns-then-n-eq0 : goal.returns-then-n-eq0
-returns-then-n-eq0 g c =
-    record {
-      form =
-          refused_side (kind g.T.Arithmetic.ops g.T.Real.Arithmetic.ops g.T.Real.RealScalar.real) c.args.n
-          (vec_items c.args.table) c.then-n-eq0.either;
-    }
 
 pub returns : goal.returns
 returns g c =
