@@ -21,25 +21,25 @@ pub fn settle<T: Scalar, K: Keeper<T>>(
     tolerance: T::Real,
     limit: u32,
 ) -> Result<u32, Unsettled<T::Real>>
-    ensures handed_back { handed_back result ≡ back_from (check_of T.Real.Arithmetic.ops T.Real.RealScalar.real
+    ensures handed_back { handed_back result ≡ back_from (check_of T.Real.ops T.Real.real
         (length values.old) (length offs.old) tolerance limit
-        (K.Keeper.kept keeper.old).width reduction.side) reduction.side reduction.largest }
-    ensures run { IsRun T.Arithmetic.ops T.Real.Arithmetic.ops T.Real.RealScalar.real
+        (K.kept keeper.old).width reduction.side) reduction.side reduction.largest }
+    ensures run { IsRun T.ops T.Real.ops T.Real.real
         (start_of reduction.side reduction.largest values.old offs.old tolerance
-        (K.Keeper.kept keeper.old)) limit
-        (finish_of (answer_of result) values.new offs.new (K.Keeper.kept keeper.new)) }
-    ensures any_keeper { AnyKeeper T.Arithmetic.ops T.Real.Arithmetic.ops T.Real.RealScalar.real
+        (K.kept keeper.old)) limit
+        (finish_of (answer_of result) values.new offs.new (K.kept keeper.new)) }
+    ensures any_keeper { AnyKeeper T.ops T.Real.ops T.Real.real
         (start_of reduction.side reduction.largest values.old offs.old tolerance
-        (K.Keeper.kept keeper.old)) limit
-        (finish_of (answer_of result) values.new offs.new (K.Keeper.kept keeper.new)) }
-    ensures any_upper { AnyUpper T.Arithmetic.ops T.Real.Arithmetic.ops T.Real.RealScalar.real
+        (K.kept keeper.old)) limit
+        (finish_of (answer_of result) values.new offs.new (K.kept keeper.new)) }
+    ensures any_upper { AnyUpper T.ops T.Real.ops T.Real.real
         (start_of reduction.side reduction.largest values.old offs.old tolerance
-        (K.Keeper.kept keeper.old)) limit
-        (finish_of (answer_of result) values.new offs.new (K.Keeper.kept keeper.new)) }
-    ensures any_limit { AnyLimit T.Arithmetic.ops T.Real.Arithmetic.ops T.Real.RealScalar.real
+        (K.kept keeper.old)) limit
+        (finish_of (answer_of result) values.new offs.new (K.kept keeper.new)) }
+    ensures any_limit { AnyLimit T.ops T.Real.ops T.Real.real
         (start_of reduction.side reduction.largest values.old offs.old tolerance
-        (K.Keeper.kept keeper.old))
-        (finish_of (answer_of result) values.new offs.new (K.Keeper.kept keeper.new)) }
+        (K.kept keeper.old))
+        (finish_of (answer_of result) values.new offs.new (K.kept keeper.new)) }
 {
     if let Err(fault) = check::<T, K>(&reduction, values, offs, keeper, tolerance, limit) {
         return Err(Unsettled::Refused { fault, reduction });

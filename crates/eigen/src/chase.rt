@@ -26,7 +26,7 @@ pub(crate) struct Corner<R: Copy> {
 impl<R: RealScalar> Corner<R> {
     // The block under a rotation, on both sides.
     fn rotated(self, rotation: Rotation<R>) -> Corner<R>
-        ensures corner { result ≡ rotated_corner R.Arithmetic.ops R.RealScalar.real rotation self }
+        ensures corner { result ≡ rotated_corner R.ops R.real rotation self }
     {
         let Corner { mii, mij, mjj } = self;
         let Rotation { c, s } = rotation;
@@ -47,7 +47,7 @@ impl<R: RealScalar> Tridiagonal<'_, R> {
     fn put_norm(&mut self, start: usize, i: usize, norm: R)
         requires { i < length self.old.offs.now }
         ensures values { self.new.values.now ≡ self.old.values.now }
-        ensures offs { self.new.offs.now ≡ norm_put R.Arithmetic.ops R.RealScalar.real start i norm self.old.offs.now }
+        ensures offs { self.new.offs.now ≡ norm_put R.ops R.real start i norm self.old.offs.now }
         ensures same { SameBuffers self.old self.new }
     {
         if start < i {
@@ -57,12 +57,12 @@ impl<R: RealScalar> Tridiagonal<'_, R> {
 
     fn rotate_corner(&mut self, i: usize, rotation: Rotation<R>)
         requires { i < length self.old.offs.now }
-        ensures values { self.new.values.now ≡ corner_values R.Arithmetic.ops R.RealScalar.real
-            (rotated_corner R.Arithmetic.ops R.RealScalar.real rotation
-            (corner_at R.Arithmetic.ops R.RealScalar.real self.old.values.now self.old.offs.now i)) i self.old.values.now }
+        ensures values { self.new.values.now ≡ corner_values R.ops R.real
+            (rotated_corner R.ops R.real rotation
+            (corner_at R.ops R.real self.old.values.now self.old.offs.now i)) i self.old.values.now }
         ensures offs { self.new.offs.now ≡ slice_set self.old.offs.now i
-            (rotated_corner R.Arithmetic.ops R.RealScalar.real rotation
-            (corner_at R.Arithmetic.ops R.RealScalar.real self.old.values.now self.old.offs.now i)).mij }
+            (rotated_corner R.ops R.real rotation
+            (corner_at R.ops R.real self.old.values.now self.old.offs.now i)).mij }
         ensures same { SameBuffers self.old self.new }
     {
         let old = Corner {
@@ -86,9 +86,9 @@ impl<R: RealScalar> Tridiagonal<'_, R> {
     ) -> Vector2<R>
         requires i_in_bounds { i < length self.old.offs.now }
         requires end_in_bounds { end ≤ length self.old.offs.now }
-        ensures bulge { result ≡ bulge_next R.Arithmetic.ops R.RealScalar.real end i rotation self.old.offs.now old }
+        ensures bulge { result ≡ bulge_next R.ops R.real end i rotation self.old.offs.now old }
         ensures values { self.new.values.now ≡ self.old.values.now }
-        ensures offs { self.new.offs.now ≡ bulge_offs R.Arithmetic.ops R.RealScalar.real end i rotation self.old.offs.now }
+        ensures offs { self.new.offs.now ≡ bulge_offs R.ops R.real end i rotation self.old.offs.now }
         ensures same { SameBuffers self.old self.new }
     {
         if i + 1 < end {
@@ -108,12 +108,12 @@ impl<R: RealScalar> Tridiagonal<'_, R> {
     fn step(&mut self, block: Block, i: usize, found: Normed<R>, old: Vector2<R>) -> Vector2<R>
         requires i_lt_end { i < block.end }
         requires end_in_bounds { block.end ≤ length self.old.offs.now }
-        ensures bulge { result ≡ bulge_next R.Arithmetic.ops R.RealScalar.real block.end i found.rotation
-            (step_offs R.Arithmetic.ops R.RealScalar.real block.start i found self.old.values.now self.old.offs.now) old }
+        ensures bulge { result ≡ bulge_next R.ops R.real block.end i found.rotation
+            (step_offs R.ops R.real block.start i found self.old.values.now self.old.offs.now) old }
         ensures values { self.new.values.now ≡
-            step_values R.Arithmetic.ops R.RealScalar.real block.start i found self.old.values.now self.old.offs.now }
-        ensures offs { self.new.offs.now ≡ bulge_offs R.Arithmetic.ops R.RealScalar.real block.end i found.rotation
-            (step_offs R.Arithmetic.ops R.RealScalar.real block.start i found self.old.values.now self.old.offs.now) }
+            step_values R.ops R.real block.start i found self.old.values.now self.old.offs.now }
+        ensures offs { self.new.offs.now ≡ bulge_offs R.ops R.real block.end i found.rotation
+            (step_offs R.ops R.real block.start i found self.old.values.now self.old.offs.now) }
         ensures same { SameBuffers self.old self.new }
     {
         self.put_norm(block.start, i, found.norm);
@@ -124,7 +124,7 @@ impl<R: RealScalar> Tridiagonal<'_, R> {
     fn first_bulge(&self, block: Block) -> Vector2<R>
         requires start_lt_end { block.start < block.end }
         requires end_in_bounds { block.end ≤ length self.now.offs.now }
-        ensures bulge { result ≡ first_bulge R.Arithmetic.ops R.RealScalar.real block.start block.end
+        ensures bulge { result ≡ first_bulge R.ops R.real block.start block.end
             self.now.values.now self.now.offs.now }
     {
         let Block { start, end } = block;
@@ -138,8 +138,8 @@ impl<R: RealScalar> Tridiagonal<'_, R> {
 
 // The turn that goes with a rotation of the columns i and i + 1.
 fn turn_back<T: Scalar, K: Keeper<T>>(keeper: &mut K, i: usize, rotation: Rotation<T::Real>)
-    ensures rows { K.Keeper.kept keeper.new ≡
-        kept_turned T.Arithmetic.ops (turn_of i rotation.c rotation.s Back) (K.Keeper.kept keeper.old) }
+    ensures rows { K.kept keeper.new ≡
+        kept_turned T.ops (turn_of i rotation.c rotation.s Back) (K.kept keeper.old) }
 {
     let _ = keeper.turn(&Turn {
         column: i,
@@ -157,16 +157,16 @@ pub(crate) fn chase<T: Scalar, K: Keeper<T>>(
 )
     requires start_lt_end { block.start < block.end }
     requires end_in_bounds { block.end ≤ length form.old.offs.now }
-    requires end_bound { block.end < (K.Keeper.kept keeper.old).width }
-    ensures values { form.new.values.now ≡ (chased T.Real.Arithmetic.ops T.Real.RealScalar.real block.start block.end
+    requires end_bound { block.end < (K.kept keeper.old).width }
+    ensures values { form.new.values.now ≡ (chased T.Real.ops T.Real.real block.start block.end
         form.old.values.now form.old.offs.now).values }
-    ensures offs { form.new.offs.now ≡ (chased T.Real.Arithmetic.ops T.Real.RealScalar.real block.start block.end
+    ensures offs { form.new.offs.now ≡ (chased T.Real.ops T.Real.real block.start block.end
         form.old.values.now form.old.offs.now).offs }
     ensures same { SameBuffers form.old form.new }
-    ensures rows { K.Keeper.kept keeper.new ≡ kept_all T.Arithmetic.ops
-        (chased T.Real.Arithmetic.ops T.Real.RealScalar.real block.start block.end
+    ensures rows { K.kept keeper.new ≡ kept_all T.ops
+        (chased T.Real.ops T.Real.real block.start block.end
         form.old.values.now form.old.offs.now).turns
-        (K.Keeper.kept keeper.old) }
+        (K.kept keeper.old) }
 {
     let mut bulge = form.first_bulge(block);
     'chase: for i in block.start..block.end {

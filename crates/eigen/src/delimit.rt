@@ -31,7 +31,7 @@ impl<R: RealScalar> Tridiagonal<'_, R> {
     // What the off-diagonal entry m is held against.
     fn bound(&self, m: usize, tolerance: R) -> R
         requires { m < length self.now.offs.now }
-        ensures bound { result ≡ bound R.Arithmetic.ops R.RealScalar.real tolerance self.now.values.now m }
+        ensures bound { result ≡ bound R.ops R.real tolerance self.now.values.now m }
     {
         tolerance.mul(self.values[m + 1].abs().add(self.values[m].abs()))
     }
@@ -39,7 +39,7 @@ impl<R: RealScalar> Tridiagonal<'_, R> {
     fn is_above(&self, m: usize, tolerance: R) -> bool
         requires { m < length self.now.offs.now }
         ensures answer { result ≡
-            above R.Arithmetic.ops R.RealScalar.real tolerance self.now.values.now self.now.offs.now m }
+            above R.ops R.real tolerance self.now.values.now self.now.offs.now m }
     {
         self.bound(m, tolerance).lt(self.offs[m].abs())
     }
@@ -47,7 +47,7 @@ impl<R: RealScalar> Tridiagonal<'_, R> {
     pub(crate) fn is_within(&self, m: usize, tolerance: R) -> bool
         requires { m < length self.now.offs.now }
         ensures answer { result ≡
-            within R.Arithmetic.ops R.RealScalar.real tolerance self.now.values.now self.now.offs.now m }
+            within R.ops R.real tolerance self.now.values.now self.now.offs.now m }
     {
         self.offs[m].abs().le(self.bound(m, tolerance))
     }
@@ -55,7 +55,7 @@ impl<R: RealScalar> Tridiagonal<'_, R> {
     fn is_negligible(&self, m: usize, tolerance: R) -> bool
         requires { m < length self.now.offs.now }
         ensures answer { result ≡
-            negligible R.Arithmetic.ops R.RealScalar.real tolerance self.now.values.now self.now.offs.now m }
+            negligible R.ops R.real tolerance self.now.values.now self.now.offs.now m }
     {
         self.offs[m].is_zero() || self.is_within(m, tolerance)
     }
@@ -64,7 +64,7 @@ impl<R: RealScalar> Tridiagonal<'_, R> {
     fn end_from(&self, end: usize, tolerance: R) -> usize
         requires { end ≤ length self.now.offs.now }
         ensures scan { result ≡
-            end_from R.Arithmetic.ops R.RealScalar.real tolerance self.now.values.now self.now.offs.now end }
+            end_from R.ops R.real tolerance self.now.values.now self.now.offs.now end }
         ensures below { result ≤ end }
     {
         fall_to(end, |m| self.is_above(m, tolerance))
@@ -74,7 +74,7 @@ impl<R: RealScalar> Tridiagonal<'_, R> {
     fn start_from(&self, start: usize, tolerance: R) -> usize
         requires { start ≤ length self.now.offs.now }
         ensures scan { result ≡
-            start_from R.Arithmetic.ops R.RealScalar.real tolerance self.now.values.now self.now.offs.now start }
+            start_from R.ops R.real tolerance self.now.values.now self.now.offs.now start }
         ensures below { result ≤ start }
     {
         fall_to(start, |m| self.is_negligible(m, tolerance))
@@ -84,7 +84,7 @@ impl<R: RealScalar> Tridiagonal<'_, R> {
     fn cut_at(&mut self, start: usize)
         requires { start ≤ length self.old.offs.now }
         ensures values { self.new.values.now ≡ self.old.values.now }
-        ensures offs { self.new.offs.now ≡ cut_at R.Arithmetic.ops start self.old.offs.now }
+        ensures offs { self.new.offs.now ≡ cut_at R.ops start self.old.offs.now }
         ensures same { SameBuffers self.old self.new }
     {
         if start > 0 {
@@ -96,10 +96,10 @@ impl<R: RealScalar> Tridiagonal<'_, R> {
     pub(crate) fn delimit_subproblem(&mut self, end: usize, tolerance: R) -> Block
         requires { end ≤ length self.old.offs.now }
         ensures block { result ≡
-            block_from R.Arithmetic.ops R.RealScalar.real tolerance self.old.values.now self.old.offs.now end }
+            block_from R.ops R.real tolerance self.old.values.now self.old.offs.now end }
         ensures values { self.new.values.now ≡ self.old.values.now }
         ensures offs { self.new.offs.now ≡
-            offs_from R.Arithmetic.ops R.RealScalar.real tolerance self.old.values.now self.old.offs.now end }
+            offs_from R.ops R.real tolerance self.old.values.now self.old.offs.now end }
         ensures same { SameBuffers self.old self.new }
         ensures ordered { result.start ≤ result.end }
         ensures below { result.end ≤ end }

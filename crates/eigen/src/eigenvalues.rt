@@ -11,7 +11,7 @@ pub(crate) struct Vector2<R: Copy> {
 }
 
 fn half_difference<R: RealScalar>(a: R, b: R) -> R
-    ensures { result ≡ half_difference R.Arithmetic.ops R.RealScalar.real a b }
+    ensures { result ≡ half_difference R.ops R.real a b }
 {
     a.sub(b).mul(R::HALF)
 }
@@ -23,7 +23,7 @@ pub(crate) fn compute_2x2_eigvals<R: RealScalar>(
     h01: R,
     h11: R,
 ) -> Option<Vector2<R>>
-    ensures values { result ≡ eigenvalues R.Arithmetic.ops R.RealScalar.real h00 h10 h01 h11 }
+    ensures values { result ≡ eigenvalues R.ops R.real h00 h10 h01 h11 }
 {
     let value = half_difference(h00, h11);
     let discriminant = h10.mul(h01).add(value.mul(value));
@@ -42,7 +42,7 @@ pub(crate) fn compute_2x2_eigvals<R: RealScalar>(
 // Of the block (tmm tmn)(tmn tnn), the eigenvalue at its last entry.
 // The sign is `signum` and not the sign split's: that of -0 is -1.
 pub(crate) fn wilkinson_shift<R: RealScalar>(tmm: R, tnn: R, tmn: R) -> R
-    ensures shift { result ≡ wilkinson_shift R.Arithmetic.ops R.RealScalar.real tmm tnn tmn }
+    ensures shift { result ≡ wilkinson_shift R.ops R.real tmm tnn tmn }
 {
     let square = tmn.mul(tmn);
     if square.is_zero() {

@@ -19,16 +19,16 @@ pub(crate) struct Normed<R: Copy> {
 
 // The length of (x, y), from `modulus`, which is x without its sign.
 fn length<R: RealScalar>(modulus: R, y: R) -> R
-    ensures { result ≡ R.RealScalar.real.root
-        (R.Arithmetic.ops.add (R.Arithmetic.ops.mul modulus modulus) (R.Arithmetic.ops.mul y y)) }
+    ensures { result ≡ R.real.root
+        (R.ops.add (R.ops.mul modulus modulus) (R.ops.mul y y)) }
 {
     modulus.mul(modulus).add(y.mul(y)).sqrt()
 }
 
 // The rotation of cosine as `modulus` and sine as `sine`, both divided by the length, and the length with the sign.
 fn normed_by<R: RealScalar>(modulus: R, sine: R, length: R, sign: R) -> Normed<R>
-    ensures { result ≡ normed_of (R.RealScalar.real.div modulus length)
-        (R.RealScalar.real.div sine (R.Arithmetic.ops.scale sign length)) (R.Arithmetic.ops.scale sign length) }
+    ensures { result ≡ normed_of (R.real.div modulus length)
+        (R.real.div sine (R.ops.scale sign length)) (R.ops.scale sign length) }
 {
     let norm = sign.scale(length);
     Normed {
@@ -42,7 +42,7 @@ fn normed_by<R: RealScalar>(modulus: R, sine: R, length: R, sign: R) -> Normed<R
 
 // The rotation that makes the second of (x, y) zero, or none where it is zero.
 pub(crate) fn cancel_y<R: RealScalar>(x: R, y: R) -> Option<Normed<R>>
-    ensures rotation { result ≡ cancel_y R.Arithmetic.ops R.RealScalar.real x y }
+    ensures rotation { result ≡ cancel_y R.ops R.real x y }
 {
     if y.is_zero() {
         return None;
@@ -53,7 +53,7 @@ pub(crate) fn cancel_y<R: RealScalar>(x: R, y: R) -> Option<Normed<R>>
 
 // The rotation of cosine and sine as x and y, or none where their length is not above the tolerance.
 pub(crate) fn try_new<R: RealScalar>(x: R, y: R, tolerance: R) -> Option<Normed<R>>
-    ensures rotation { result ≡ try_new R.Arithmetic.ops R.RealScalar.real x y tolerance }
+    ensures rotation { result ≡ try_new R.ops R.real x y tolerance }
 {
     let (modulus, sign) = x.split_sign();
     let length = length(modulus, y);

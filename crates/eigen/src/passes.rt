@@ -15,7 +15,7 @@ use scalar::{Arithmetic, RealScalar, Scalar};
 
 // The eigenvector of the eigenvalue x of a block of two: of its two forms, the one less likely to have lost its digits.
 fn basis_of<R: RealScalar>(x: R, first: R, second: R, off: R) -> Vector2<R>
-    ensures basis { result ≡ basis_of R.Arithmetic.ops R.RealScalar.real x first second off }
+    ensures basis { result ≡ basis_of R.ops R.real x first second off }
 {
     if x.sub(first).modulus().lt(x.sub(second).modulus()) {
         Vector2 {
@@ -35,7 +35,7 @@ impl<R: RealScalar> Tridiagonal<'_, R> {
     fn pair_at(&self, start: usize) -> Option<Vector2<R>>
         requires { start < length self.now.offs.now }
         ensures pair { result ≡
-            pair_at R.Arithmetic.ops R.RealScalar.real start self.now.values.now self.now.offs.now }
+            pair_at R.ops R.real start self.now.values.now self.now.offs.now }
     {
         let off = self.offs[start];
         compute_2x2_eigvals(
@@ -54,9 +54,9 @@ fn turn_to<T: Scalar, K: Keeper<T>>(
     basis: Vector2<T::Real>,
     tolerance: T::Real,
 )
-    requires { start + 1 < (K.Keeper.kept keeper.old).width }
-    ensures rows { K.Keeper.kept keeper.new ≡ kept_all T.Arithmetic.ops
-        (basis_turns T.Real.Arithmetic.ops T.Real.RealScalar.real tolerance start basis) (K.Keeper.kept keeper.old) }
+    requires { start + 1 < (K.kept keeper.old).width }
+    ensures rows { K.kept keeper.new ≡ kept_all T.ops
+        (basis_turns T.Real.ops T.Real.real tolerance start basis) (K.kept keeper.old) }
 {
     if let Some(found) = try_new(basis.x, basis.y, tolerance) {
         let _ = keeper.turn(&Turn {
@@ -76,17 +76,17 @@ fn settle_pair<T: Scalar, K: Keeper<T>>(
     tolerance: T::Real,
 ) -> Option<()>
     requires start_in_bounds { start < length form.old.offs.now }
-    requires start_bound { start + 1 < (K.Keeper.kept keeper.old).width }
-    ensures answer { is_some result ≡ pair_exists T.Real.Arithmetic.ops T.Real.RealScalar.real tolerance start
+    requires start_bound { start + 1 < (K.kept keeper.old).width }
+    ensures answer { is_some result ≡ pair_exists T.Real.ops T.Real.real tolerance start
         form.old.values.now form.old.offs.now }
-    ensures values { form.new.values.now ≡ (pair_left T.Real.Arithmetic.ops T.Real.RealScalar.real tolerance start
+    ensures values { form.new.values.now ≡ (pair_left T.Real.ops T.Real.real tolerance start
         form.old.values.now form.old.offs.now).values }
     ensures offs { form.new.offs.now ≡ form.old.offs.now }
     ensures same { SameBuffers form.old form.new }
-    ensures rows { K.Keeper.kept keeper.new ≡ kept_all T.Arithmetic.ops
-        (pair_left T.Real.Arithmetic.ops T.Real.RealScalar.real tolerance start
+    ensures rows { K.kept keeper.new ≡ kept_all T.ops
+        (pair_left T.Real.ops T.Real.real tolerance start
         form.old.values.now form.old.offs.now).turns
-        (K.Keeper.kept keeper.old) }
+        (K.kept keeper.old) }
 {
     let eigenvalues = form.pair_at(start)?;
     let basis = basis_of(
@@ -110,18 +110,18 @@ pub(crate) fn pass<T: Scalar, K: Keeper<T>>(
 ) -> Option<usize>
     requires start_lt_end { block.start < block.end }
     requires end_in_bounds { block.end ≤ length form.old.offs.now }
-    requires end_bound { block.end < (K.Keeper.kept keeper.old).width }
-    ensures end { result ≡ pass_end T.Real.Arithmetic.ops T.Real.RealScalar.real tolerance block.start block.end
+    requires end_bound { block.end < (K.kept keeper.old).width }
+    ensures end { result ≡ pass_end T.Real.ops T.Real.real tolerance block.start block.end
         form.old.values.now form.old.offs.now }
-    ensures values { form.new.values.now ≡ (pass_left T.Real.Arithmetic.ops T.Real.RealScalar.real tolerance
+    ensures values { form.new.values.now ≡ (pass_left T.Real.ops T.Real.real tolerance
         block.start block.end form.old.values.now form.old.offs.now).values }
-    ensures offs { form.new.offs.now ≡ (pass_left T.Real.Arithmetic.ops T.Real.RealScalar.real tolerance
+    ensures offs { form.new.offs.now ≡ (pass_left T.Real.ops T.Real.real tolerance
         block.start block.end form.old.values.now form.old.offs.now).offs }
     ensures same { SameBuffers form.old form.new }
-    ensures rows { K.Keeper.kept keeper.new ≡ kept_all T.Arithmetic.ops
-        (pass_left T.Real.Arithmetic.ops T.Real.RealScalar.real tolerance block.start block.end
+    ensures rows { K.kept keeper.new ≡ kept_all T.ops
+        (pass_left T.Real.ops T.Real.real tolerance block.start block.end
         form.old.values.now form.old.offs.now).turns
-        (K.Keeper.kept keeper.old) }
+        (K.kept keeper.old) }
 {
     if block.start + 1 < block.end {
         chase::<T, K>(form, keeper, block);

@@ -19,7 +19,7 @@ fn are_lengths(values: usize, offs: usize, side: usize) -> bool
 }
 
 fn is_unlawful<R: RealScalar>(tolerance: R) -> bool
-    ensures answer { result ≡ unlawful R.Arithmetic.ops R.RealScalar.real tolerance }
+    ensures answer { result ≡ unlawful R.ops R.real tolerance }
 {
     tolerance.lt(R::zero()) || !tolerance.is_finite()
 }
@@ -39,8 +39,8 @@ pub(crate) fn check<T: Scalar, K: Keeper<T>>(
     tolerance: T::Real,
     limit: u32,
 ) -> Result<(), Fault>
-    ensures answer { answered result ≡ check_of T.Real.Arithmetic.ops T.Real.RealScalar.real (length values.now)
-        (length offs.now) tolerance limit (K.Keeper.kept keeper.now).width reduction.now.side }
+    ensures answer { answered result ≡ check_of T.Real.ops T.Real.real (length values.now)
+        (length offs.now) tolerance limit (K.kept keeper.now).width reduction.now.side }
 {
     let side = reduction.side();
     if !are_lengths(values.len(), offs.len(), side) {
@@ -67,24 +67,24 @@ pub(crate) fn lawful_run<T: Scalar, K: Keeper<T>>(
     tolerance: T::Real,
     limit: u32,
 ) -> Result<u32, Fault>
-    requires { given tt ≡ check_of T.Real.Arithmetic.ops T.Real.RealScalar.real (length form.old.values.now)
-        (length form.old.offs.now) tolerance limit (K.Keeper.kept keeper.old).width reduction.now.side }
-    ensures run { IsRun T.Arithmetic.ops T.Real.Arithmetic.ops T.Real.RealScalar.real
+    requires { given tt ≡ check_of T.Real.ops T.Real.real (length form.old.values.now)
+        (length form.old.offs.now) tolerance limit (K.kept keeper.old).width reduction.now.side }
+    ensures run { IsRun T.ops T.Real.ops T.Real.real
         (start_of reduction.now.side reduction.now.largest form.old.values.now form.old.offs.now tolerance
-        (K.Keeper.kept keeper.old)) limit
-        (finish_of (answered result) form.new.values.now form.new.offs.now (K.Keeper.kept keeper.new)) }
-    ensures any_keeper { AnyKeeper T.Arithmetic.ops T.Real.Arithmetic.ops T.Real.RealScalar.real
+        (K.kept keeper.old)) limit
+        (finish_of (answered result) form.new.values.now form.new.offs.now (K.kept keeper.new)) }
+    ensures any_keeper { AnyKeeper T.ops T.Real.ops T.Real.real
         (start_of reduction.now.side reduction.now.largest form.old.values.now form.old.offs.now tolerance
-        (K.Keeper.kept keeper.old)) limit
-        (finish_of (answered result) form.new.values.now form.new.offs.now (K.Keeper.kept keeper.new)) }
-    ensures any_upper { AnyUpper T.Arithmetic.ops T.Real.Arithmetic.ops T.Real.RealScalar.real
+        (K.kept keeper.old)) limit
+        (finish_of (answered result) form.new.values.now form.new.offs.now (K.kept keeper.new)) }
+    ensures any_upper { AnyUpper T.ops T.Real.ops T.Real.real
         (start_of reduction.now.side reduction.now.largest form.old.values.now form.old.offs.now tolerance
-        (K.Keeper.kept keeper.old)) limit
-        (finish_of (answered result) form.new.values.now form.new.offs.now (K.Keeper.kept keeper.new)) }
-    ensures any_limit { AnyLimit T.Arithmetic.ops T.Real.Arithmetic.ops T.Real.RealScalar.real
+        (K.kept keeper.old)) limit
+        (finish_of (answered result) form.new.values.now form.new.offs.now (K.kept keeper.new)) }
+    ensures any_limit { AnyLimit T.ops T.Real.ops T.Real.real
         (start_of reduction.now.side reduction.now.largest form.old.values.now form.old.offs.now tolerance
-        (K.Keeper.kept keeper.old))
-        (finish_of (answered result) form.new.values.now form.new.offs.now (K.Keeper.kept keeper.new)) }
+        (K.kept keeper.old))
+        (finish_of (answered result) form.new.values.now form.new.offs.now (K.kept keeper.new)) }
     ensures same { SameBuffers form.old form.new }
 {
     run::<T, K>(form, keeper, tolerance, limit, reduction.largest())

@@ -13,7 +13,7 @@ use scalar::{Arithmetic, RealScalar, Scalar};
 
 // Every value is multiplied by the largest size of the table that was divided by it.
 fn scale_values<R: RealScalar>(values: &mut [R], largest: R)
-    ensures values { values.new ≡ scaled_by R.Arithmetic.ops largest values.old }
+    ensures values { values.new ≡ scaled_by R.ops largest values.old }
 {
     for value in values.iter_mut() {
         *value = value.scale(largest);
@@ -28,18 +28,18 @@ pub(crate) fn run<T: Scalar, K: Keeper<T>>(
     limit: u32,
     largest: T::Real,
 ) -> Result<u32, Fault>
-    requires { (K.Keeper.kept keeper.old).width ≡ length form.old.values.now }
-    ensures answer { answered result ≡ (run_of T.Real.Arithmetic.ops T.Real.RealScalar.real tolerance limit
+    requires { (K.kept keeper.old).width ≡ length form.old.values.now }
+    ensures answer { answered result ≡ (run_of T.Real.ops T.Real.real tolerance limit
         (length form.old.values.now) largest form.old.values.now form.old.offs.now).answer }
-    ensures values { form.new.values.now ≡ (run_of T.Real.Arithmetic.ops T.Real.RealScalar.real tolerance limit
+    ensures values { form.new.values.now ≡ (run_of T.Real.ops T.Real.real tolerance limit
         (length form.old.values.now) largest form.old.values.now form.old.offs.now).values }
-    ensures offs { form.new.offs.now ≡ (run_of T.Real.Arithmetic.ops T.Real.RealScalar.real tolerance limit
+    ensures offs { form.new.offs.now ≡ (run_of T.Real.ops T.Real.real tolerance limit
         (length form.old.values.now) largest form.old.values.now form.old.offs.now).offs }
     ensures same { SameBuffers form.old form.new }
-    ensures rows { K.Keeper.kept keeper.new ≡ kept_all T.Arithmetic.ops
-        (run_of T.Real.Arithmetic.ops T.Real.RealScalar.real tolerance limit
+    ensures rows { K.kept keeper.new ≡ kept_all T.ops
+        (run_of T.Real.ops T.Real.real tolerance limit
         (length form.old.values.now) largest form.old.values.now form.old.offs.now).turns
-        (K.Keeper.kept keeper.old) }
+        (K.kept keeper.old) }
 {
     let mut block = form.delimit_subproblem(form.offs.len(), tolerance);
     'passes: for count in 0..limit {

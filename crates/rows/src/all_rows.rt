@@ -35,8 +35,8 @@ impl<'a, T: Scalar> AllRows<'a, T> {
 
     // Refuses nothing: what is held against the check counts as width 0 and no rows.
     pub fn new(width: usize, count: usize, cells: &'a mut [T]) -> AllRows<'a, T>
-        ensures kept { all_rows T.Arithmetic.ops.zero result.width result.count result.cells.now ≡
-            all_rows T.Arithmetic.ops.zero width count cells.old }
+        ensures kept { all_rows T.ops.zero result.width result.count result.cells.now ≡
+            all_rows T.ops.zero width count cells.old }
     {
         match AllRows::<T>::check(width, count, cells.len()) {
             Ok(()) => AllRows {
@@ -54,9 +54,9 @@ impl<'a, T: Scalar> AllRows<'a, T> {
 }
 
 impl<'a, T: Scalar> Keeper<T> for AllRows<'a, T> {
-    ghost kept = { λ k. all_rows T.Arithmetic.ops.zero k.width k.count k.cells.now };
+    ghost kept = { λ k. all_rows T.ops.zero k.width k.count k.cells.now };
 
-    ghost sound = { λ k. all_rows_sound T.Arithmetic.ops.zero k.width k.count k.cells.now };
+    ghost sound = { λ k. all_rows_sound T.ops.zero k.width k.count k.cells.now };
 
     fn width(&self) -> usize {
         self.width

@@ -17,14 +17,14 @@ pub struct Both<A, B> {
 
 // How many rows two keepers have together: each has at most 65,536.
 fn together<T: Scalar, A: Keeper<T>, B: Keeper<T>>(first: &A, second: &B) -> usize
-    ensures { result ≡ length (A.Keeper.kept first.now).rows + length (B.Keeper.kept second.now).rows }
+    ensures { result ≡ length (A.kept first.now).rows + length (B.kept second.now).rows }
 {
     first.rows() + second.rows()
 }
 
 // Asked at each call: a ghost field that ties a flag in `Both` to its keepers would need T in the public type.
 fn fit<T: Scalar, A: Keeper<T>, B: Keeper<T>>(first: &A, second: &B) -> bool
-    ensures { result ≡ both_fit (A.Keeper.kept first.now) (B.Keeper.kept second.now) }
+    ensures { result ≡ both_fit (A.kept first.now) (B.kept second.now) }
 {
     Both::<A, B>::check::<T>(first, second).is_ok()
 }
@@ -36,7 +36,7 @@ fn read_either<T: Scalar, A: Keeper<T>, B: Keeper<T>>(
     column: usize,
 ) -> Result<T, Fault>
     ensures { answered result ≡
-        either_cell (A.Keeper.kept first.now).rows (B.Keeper.kept second.now).rows row column }
+        either_cell (A.kept first.now).rows (B.kept second.now).rows row column }
 {
     let count = first.rows();
     if row < count {
@@ -52,12 +52,12 @@ fn turn_each<T: Scalar, A: Keeper<T>, B: Keeper<T>>(
     second: &mut B,
     turn: &Turn<T::Real>,
 ) -> Result<(), Fault>
-    requires { (A.Keeper.kept first.old).width ≡ (B.Keeper.kept second.old).width }
-    ensures answer { answered result ≡ turn_answer (A.Keeper.kept first.old) turn.now.column }
-    ensures first { A.Keeper.kept first.new ≡
-        kept_turned T.Arithmetic.ops turn.now (A.Keeper.kept first.old) }
-    ensures second { B.Keeper.kept second.new ≡
-        kept_turned T.Arithmetic.ops turn.now (B.Keeper.kept second.old) }
+    requires { (A.kept first.old).width ≡ (B.kept second.old).width }
+    ensures answer { answered result ≡ turn_answer (A.kept first.old) turn.now.column }
+    ensures first { A.kept first.new ≡
+        kept_turned T.ops turn.now (A.kept first.old) }
+    ensures second { B.kept second.new ≡
+        kept_turned T.ops turn.now (B.kept second.old) }
 {
     first.turn(turn)?;
     second.turn(turn)
@@ -69,7 +69,7 @@ impl<A, B> Both<A, B> {
         A: Keeper<T>,
         B: Keeper<T>,
         ensures answer { answered result ≡
-            both_check (A.Keeper.kept first.now) (B.Keeper.kept second.now) }
+            both_check (A.kept first.now) (B.kept second.now) }
     {
         if first.width() != second.width() {
             return Err(Fault::Width);
@@ -85,8 +85,8 @@ impl<A, B> Both<A, B> {
     where
         A: Keeper<T>,
         B: Keeper<T>,
-        ensures kept { both (A.Keeper.kept result.first) (B.Keeper.kept result.second) ≡
-            both (A.Keeper.kept first) (B.Keeper.kept second) }
+        ensures kept { both (A.kept result.first) (B.kept result.second) ≡
+            both (A.kept first) (B.kept second) }
     {
         Both { first, second }
     }
@@ -105,9 +105,9 @@ impl<A, B> Both<A, B> {
 }
 
 impl<T: Scalar, A: Keeper<T>, B: Keeper<T>> Keeper<T> for Both<A, B> {
-    ghost kept = { λ k. both (A.Keeper.kept k.first) (B.Keeper.kept k.second) };
+    ghost kept = { λ k. both (A.kept k.first) (B.kept k.second) };
 
-    ghost sound = { λ k. both_sound _ _ (A.Keeper.sound k.first) (B.Keeper.sound k.second) };
+    ghost sound = { λ k. both_sound _ _ (A.sound k.first) (B.sound k.second) };
 
     fn width(&self) -> usize {
         if fit(&self.first, &self.second) {

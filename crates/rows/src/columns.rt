@@ -8,7 +8,7 @@ use scalar::{Arithmetic, Scalar};
 
 pub(crate) fn entry<T: Scalar>(cells: &[T], count: usize, row: usize, column: usize) -> T
     requires { row + column * count < length cells.now }
-    ensures { result ≡ get_or cells.now (row + column * count) T.Arithmetic.ops.zero }
+    ensures { result ≡ get_or cells.now (row + column * count) T.ops.zero }
 {
     cells[row + column * count]
 }
@@ -17,8 +17,8 @@ pub(crate) fn entry<T: Scalar>(cells: &[T], count: usize, row: usize, column: us
 fn turn_entries<T: Scalar>(cells: &mut [T], x: usize, y: usize, c: T::Real, t: T, u: T)
     requires at_x { x < length cells.old }
     requires at_y { y < length cells.old }
-    requires opposite { u ≡ T.Arithmetic.ops.neg (T.Arithmetic.ops.conj t) }
-    ensures { cells.new ≡ entries_turned T.Arithmetic.ops c t x y cells.old }
+    requires opposite { u ≡ T.ops.neg (T.ops.conj t) }
+    ensures { cells.new ≡ entries_turned T.ops c t x y cells.old }
 {
     let a = cells[x];
     let b = cells[y];
@@ -31,8 +31,8 @@ fn turn_entries<T: Scalar>(cells: &mut [T], x: usize, y: usize, c: T::Real, t: T
 pub(crate) fn rotate<T: Scalar>(cells: &mut [T], width: usize, count: usize, turn: &Turn<T::Real>)
     requires fit { all_rows_fit width count (length cells.old) ≡ true }
     requires inside { turn.now.column + 1 < width }
-    ensures { rows_of T.Arithmetic.ops.zero width count cells.new ≡
-        map (turned T.Arithmetic.ops turn.now) (rows_of T.Arithmetic.ops.zero width count cells.old) }
+    ensures { rows_of T.ops.zero width count cells.new ≡
+        map (turned T.ops turn.now) (rows_of T.ops.zero width count cells.old) }
 {
     let t: T = sine_of(turn);
     let u = t.conjugate().neg();

@@ -23,5 +23,5 @@ pub trait Keeper<T: Scalar> {
     // Turns two columns of every row.
     fn turn(&mut self, turn: &Turn<T::Real>) -> Result<(), Fault>
         ensures answer { answered result ≡ turn_answer (kept self.old) turn.now.column }
-        ensures rows { kept self.new ≡ kept_turned T.Arithmetic.ops turn.now (kept self.old) };
+        ensures rows { kept self.new ≡ kept_turned T.ops turn.now (kept self.old) };
 }

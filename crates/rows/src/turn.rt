@@ -24,7 +24,7 @@ impl<R: Copy> Turn<R> {
 
 // The embedded sine, or its negative when the direction is back. A method with `T: Scalar<Real = R>` is not inferred.
 pub(crate) fn sine_of<T: Scalar>(turn: &Turn<T::Real>) -> T
-    ensures { result ≡ sine T.Arithmetic.ops turn.now.direction turn.now.s }
+    ensures { result ≡ sine T.ops turn.now.direction turn.now.s }
 {
     let t = T::from_real(turn.s);
     match turn.direction {

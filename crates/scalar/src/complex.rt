@@ -7,7 +7,7 @@ use crate::point::Complex;
 impl<R: RealScalar> Arithmetic for Complex<R> {
     type Part = R;
 
-    ghost ops = { complex_ops R.Arithmetic.ops R.RealScalar.real };
+    ghost ops = { complex_ops R.ops R.real };
 
     fn zero() -> Complex<R> {
         let zero = R::zero();

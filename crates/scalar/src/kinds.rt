@@ -92,9 +92,9 @@ pub trait RealScalar: Arithmetic<Part = Self> {
 
     // The absolute value, which is this number's size and modulus.
     fn abs(self) -> Self
-        ensures value { result ≡ Self.Arithmetic.ops.size self }
+        ensures value { result ≡ Self.ops.size self }
         ensures sized { T (real.is_finite result) → T (real.is_size result) }
-        ensures laws { RealLaws Self.Arithmetic.ops real };
+        ensures laws { RealLaws Self.ops real };
 
     ghost larger_of: { LargerLaws real };
 
@@ -110,9 +110,9 @@ pub trait Scalar: Arithmetic<Part = Self::Real> {
     type Real: RealScalar;
 
     fn size(self) -> Self::Real
-        ensures value { result ≡ Self.Arithmetic.ops.size self }
-        ensures sized { T (Self.Real.RealScalar.real.is_finite result) → T (Self.Real.RealScalar.real.is_size result) }
-        ensures laws { SizeLaws Self.Arithmetic.ops Self.Real.RealScalar.real };
+        ensures value { result ≡ Self.ops.size self }
+        ensures sized { T (Self.Real.real.is_finite result) → T (Self.Real.real.is_size result) }
+        ensures laws { SizeLaws Self.ops Self.Real.real };
 }
 
 // A real kind's sizes are its absolute values.

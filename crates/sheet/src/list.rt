@@ -1,9 +1,10 @@
 // Listing a whole sheet.
-ghost use Rattle.std.specs.Prelude.{◌≡◌, IfOk};
+ghost use Rattle.std.specs.Prelude.{◌≡◌, IfOk, IsOkUnless};
 ghost use Rattle.sheet.specs.Desk.{table_of};
 ghost use Rattle.sheet.specs.Laws.{Final, Gathers, Joins};
 ghost use Rattle.sheet.specs.Listings.{headed, heading_of, listed, listing_of};
 ghost use Rattle.sheet.specs.Sheets.{run};
+ghost use Rattle.sheet.specs.declared.sheet_fault.SheetFault.TheVariants.{Memory};
 
 use crate::desk::Closed;
 use crate::listing::Listing;
@@ -11,7 +12,7 @@ use crate::read::next_table;
 use crate::sheet_fault::SheetFault;
 use crate::text::Heading;
 use fault::Fault;
-use std::alloc::{AllocError, Global};
+use std::alloc::Global;
 use std::num::f64_to_bits_with_nan;
 
 // The bytes that a sheet can have.
@@ -37,8 +38,9 @@ fn heading_of(table: Closed) -> Heading
 }
 
 // The listing of a sheet that is short enough.
-fn list_tables(heap: Global, sheet: &[u8]) -> Result<Listing, AllocError>
+fn list_tables(heap: Global, sheet: &[u8]) -> Result<Listing, SheetFault>
     ensures listing { IfOk result (λ l. listing_of l ≡ headed (run sheet.now)) }
+    ensures memory { IsOkUnless result Memory }
 {
     let mut headings = Vec::new(heap);
     let mut place = 0;
@@ -58,16 +60,17 @@ fn list_tables(heap: Global, sheet: &[u8]) -> Result<Listing, AllocError>
                     headings,
                     refusal: Some(refusal),
                 }),
-                None => return Err(AllocError),
+                None => return Err(SheetFault::Memory),
             },
         }
     }
 }
 
-// The listing of a sheet.
+// The listing of a sheet. It fails for want of memory alone.
 #[tactic(auto, using(crate::proofs::Gathering::gathers, crate::proofs::Joining::unread, crate::proofs::Joining::joins))]
-pub fn list_sheet(heap: Global, sheet: &[u8]) -> Result<Listing, AllocError>
+pub fn list_sheet(heap: Global, sheet: &[u8]) -> Result<Listing, SheetFault>
     ensures listing { IfOk result (λ l. listing_of l ≡ listed sheet.now) }
+    ensures memory { IsOkUnless result Memory }
     // the largest size gathered for each closed table is that of the whole table
     ensures gathers { Gathers sheet.now }
     // what follows a refused command does not matter

@@ -4,12 +4,10 @@ use Rattle.sheet.specs.Faults.{why}
 use Rattle.sheet.proofs.Runs.{fewer, list_broken, list_ended, list_more, numbered_room}
 use Rattle.sheet.proofs.list.list_tables.Goals as goal
 
-pub returns-in-Ok-None : goal.returns-in-Ok-None
-returns-in-Ok-None c = record {
-  listing =
-      list_ended c.args.sheet.now (vec_items c.tables.headings) c.tables.place c.tables.invariant
-      (rw c.in-Ok-None.field-0-is at c.in-Ok-None.ensures.reading);
-}
+pub returns-in-Ok-None-clause-listing : goal.returns-in-Ok-None-clause-listing
+returns-in-Ok-None-clause-listing c =
+    list_ended c.args.sheet.now (vec_items c.tables.headings) c.tables.place c.tables.invariant
+    (rw c.in-Ok-None.field-0-is at c.in-Ok-None.ensures.reading)
 
 pub tables-smaller : goal.tables-smaller
 tables-smaller c =
@@ -22,11 +20,9 @@ tables-preserved c =
     c.in-Ok-Some.reading.after (vec_items c.push.new.self) (rw c.in-Ok-Some.field-0-is at c.in-Ok-Some.ensures.reading)
     (rw c.heading_of.ensures.heading at c.in_ok-push-in-Ok-Some.ensures.items)
 
-pub returns-in-Some : goal.returns-in-Some
-returns-in-Some c = record {
-  listing =
-      list_broken c.args.sheet.now (vec_items c.tables.headings) c.tables.place c.tables.invariant
-      (why c.in-Err.refusal.fault) c.in-Err.refusal.place
-      (numbered_room (why c.in-Err.refusal.fault) c.in-Some.field-0 (sym c.in-Some.is ∙ c.number.ensures.number))
-      c.in-Err.ensures.reading;
-}
+pub returns-in-Some-clause-listing : goal.returns-in-Some-clause-listing
+returns-in-Some-clause-listing c =
+    list_broken c.args.sheet.now (vec_items c.tables.headings) c.tables.place c.tables.invariant
+    (why c.in-Err.refusal.fault) c.in-Err.refusal.place
+    (numbered_room (why c.in-Err.refusal.fault) c.in-Some.field-0 (sym c.in-Some.is ∙ c.number.ensures.number))
+    c.in-Err.ensures.reading
