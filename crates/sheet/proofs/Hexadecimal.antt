@@ -1,10 +1,9 @@
 -- Sixteen hexadecimal digits are those of the number with zeros before them.
-use Rattle.std.proofs.Common.{◌≡◌, ℕ, zero, suc, ◌+◌, ◌-◌, ◌/◌, ◌%◌, ◌^◌, ◌<◌, Bool, true, false, cond, eqb, List, [], ◌∷◌, ◌++◌, length, replicate, Some, refl, sym, ap, ◌∙◌, append_assoc, add-one, arith}
+use Rattle.std.proofs.Common.{◌≡◌, ℕ, zero, suc, ◌+◌, ◌-◌, ◌/◌, ◌%◌, ◌^◌, ◌<◌, Bool, true, false, cond, eqb, List, [], ◌∷◌, ◌++◌, length, replicate, refl, sym, ap, ◌∙◌, append_assoc, add-one, arith}
 use Rattle.std.proofs.lemmas.Bool.{eqb-true, eqb-false}
 use Rattle.std.proofs.lemmas.List.{append-nil, replicate_more}
 use Rattle.std.proofs.Math.Nat.{pow-suc}
-use Rattle.std.specs.Fmt.{digits, digits_onto, digits_output, styled_digits_output, padded_integral, format_spec, char_count}
-use Rattle.std.specs.Option.{option_map}
+use Rattle.std.specs.Fmt.{digits, digits_onto, padded_integral, format_spec, char_count}
 use Rattle.sheet.specs.Text.{hex_digit, hex_digits}
 
 -- `ds` is the last `count` digits of `n` before `acc`, but for the zeros that stand first.
@@ -55,17 +54,12 @@ front : (n : ℕ) → n < 2 ^ 64 → Front 16 n [] (digits 16 true n)
 unfolding digits
 front n h = fronts 15 64 n [] (omega arith) (omega arith)
 
-sixteen : (n : ℕ) → n < 2 ^ 64 →
-    padded_integral (format_spec 32 0 4 16 (2 ^ 64 - 1)) false [] (digits 16 true n) ≡ hex_digits 16 n
+-- What `{:016X}` writes of a number.
+pub sixteen : (n : ℕ) → n < 2 ^ 64 →
+    padded_integral (format_spec 32 0 4 16 18446744073709551615) false [] (digits 16 true n) ≡ hex_digits 16 n
 unfolding padded_integral char_count
 sixteen n h =
     let f = front n h in
     let z : 16 - length (digits 16 true n) - 0 - 0 ≡ f.zeros = omega (arith, f.many) in
     ap (λ k. replicate k 48 ++ (digits 16 true n ++ [])) z ∙
     ap (λ ds. replicate f.zeros 48 ++ ds) (append-nil (digits 16 true n)) ∙ f.text ∙ append-nil (hex_digits 16 n)
-
--- What `{:016X}` writes of a number.
-pub written : (d : _) (s : _) (n : ℕ) → s ≡ format_spec 32 0 4 16 (2 ^ 64 - 1) → digits_output d ≡ Some (digits 16 true n) → n < 2 ^ 64 →
-    styled_digits_output d s ≡ Some (hex_digits 16 n)
-written d s n e f h =
-    rw e (ap (option_map (padded_integral (format_spec 32 0 4 16 (2 ^ 64 - 1)) false [])) f ∙ ap Some (sixteen n h))

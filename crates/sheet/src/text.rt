@@ -34,6 +34,7 @@ impl fmt::Display for Kind {
 impl fmt::Display for Heading {
     ghost output = { λ h. Some (heading_text (kind_number h.kind) h.side h.largest) };
 
+    #[tactic(auto, using(crate::proofs::Hexadecimal::sixteen))]
     fn fmt<W: fmt::Write>(&self, f: &mut fmt::Formatter<W>) -> fmt::Result {
         let Heading {
             kind,
@@ -54,6 +55,7 @@ impl fmt::Display for Refused {
 }
 
 // Sixteen capital hexadecimal digits.
+#[tactic(auto, using(crate::proofs::Hexadecimal::sixteen))]
 pub fn hex16(heap: Global, bits: u64) -> Result<String, AllocError>
     ensures digits { IfOk result (λ s. string_bytes s ≡ hex_digits 16 bits) }
 {
