@@ -45,7 +45,7 @@ plus_products o sum (x ∷ xs) (y ∷ ys) = plus_products o (plus_product o sum 
 unfoldable pub dotc_of : {C R : Type 0} → Ops C R → List C → List C → C
 dotc_of o xs ys =
     plus_products o (gathered o (running_sums o (length xs / 8) (no_sums o) xs ys))
-    (drop (length xs - length xs % 8) xs) (drop (length ys - length ys % 8) ys)
+    (drop (length xs - length xs % 8) xs) (drop (length xs - length xs % 8) ys)
 
 -- two columns entry by entry, as long as the second
 abbrev pub zipped : {C : Type 0} → (C → C → C) → List C → List C → List C

@@ -14,7 +14,7 @@ loop-u-init g c =
     let y = c.args.y.now in
     let it = c.into_iter-u-iterator.result in
     let left_x : iter_rest (zip_first it) ≡ drop (length x - length x % 8) x = cc in
-    let left_y : iter_rest (zip_second it) ≡ drop (length y - length y % 8) y = cc in
+    let left_y : iter_rest (zip_second it) ≡ drop (length x - length x % 8) y = cc in
     let sum : c.gather-sum.result ≡ gathered o (running_sums o (length x / 8) (no_sums o) x y) =
     c.gather-sum.ensures ∙ ap (gathered o) c.chunk_sums.ensures in
     rw (left_x, left_y, sum)
