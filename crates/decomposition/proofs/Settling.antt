@@ -32,7 +32,8 @@ module _ {C R : Type 0} (K : Kind C R) (f : Form C R) (tolerance : R) (limit : �
   abbrev run : Run R
   run = settle_of K.reals K.real (task_of f tolerance) limit
 
-  pub settled_with_none : (w : ℕ) → settled_with K (record { width = w; rows = [] }) f tolerance limit ≡ settled_form K false f tolerance limit
+  pub settled_with_none : (w : ℕ) →
+      settled_with K (record { width = w; rows = [] }) f tolerance limit ≡ settled_form K false f tolerance limit
   settled_with_none w = ap (λ (v : List C). ended_with K v f run run.answer) (columns_of_none K.ops.zero w)
 
 -- the rows of Q, and what they are turned to

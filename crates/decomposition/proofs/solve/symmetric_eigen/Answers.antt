@@ -16,7 +16,8 @@ returns g c =
     let f = form_of c.in_ok-form.form in
     let told = c.in_ok-form.ensures.form in
     let side : f.side ≡ n = ap (λ (f : Form _ _). f.side) told.1 in
-    let kept = all_rows g.T.Arithmetic.ops.zero c.square_rows-keeper.result.width c.square_rows-keeper.result.count c.square_rows-keeper.result.cells.now in
+    let keeper = c.square_rows-keeper.result in
+    let kept = all_rows g.T.Arithmetic.ops.zero keeper.width keeper.count keeper.cells.now in
     let again = with_items_is c.in_ok-q.q c.assemble.new.q (c.assemble.auto.q ∙ c.deref_mut.ensures.len) in
     let is =
     c.deref_mut-2.ensures.value ∙ again
