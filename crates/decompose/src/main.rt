@@ -50,6 +50,7 @@ impl fmt::Display for Refused {
     }
 }
 
+// By index: a keeper is read by row and column, and lends no rows to loop over.
 fn print_rows<K: Keeper<f64>>(rt: &HostRuntime, keeper: &K) -> anyhow::Result<()> {
     for row in 0..keeper.rows() {
         print!(rt; "row {row}:")?;

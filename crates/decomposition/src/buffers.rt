@@ -23,7 +23,7 @@ fn cell<T: Scalar, K: Keeper<T>>(keeper: &K, row: usize, column: usize) -> T
     keeper.read(row, column).unwrap_or(T::zero())
 }
 
-// Adds a column of what a keeper holds.
+// Adds a column of what a keeper holds. By index: a keeper is read by row and column, and lends no rows to loop over.
 #[tactic(auto, using(crate::proofs::HeldRows::column_step, crate::proofs::HeldRows::column_whole))]
 fn push_column<T: Scalar, K: Keeper<T>>(
     cells: &mut Vec<T>,

@@ -47,6 +47,7 @@ impl<T: Sample> Table<T> {
         }
     }
 
+    // By index: an entry is written at its place and, conjugated, at the mirrored one.
     fn fill_column(&mut self, random: &mut Random, shape: Shape, column: usize) {
         for row in column..self.side {
             let x = shape.shaped(T::draw(random, row == column), row, column);
@@ -55,7 +56,7 @@ impl<T: Sample> Table<T> {
         }
     }
 
-    // Row `column` to the right of the diagonal.
+    // Row `column` to the right of the diagonal, which stands in no slice of its own.
     fn fill_above(&mut self, random: &mut Random, column: usize) {
         for row in column.saturating_add(1)..self.side {
             self.put(column, row, T::draw(random, false).scale(T::Real::FOUR));

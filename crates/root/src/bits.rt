@@ -11,7 +11,7 @@ use crate::format::Binary;
 fn size_of(m: u64) -> u64
     ensures { result ≡ size m }
 {
-    64 - m.leading_zeros() as u64
+    64 - u64::from(m.leading_zeros())
 }
 
 // The digits of m from the top of a word down, behind a zero where the place is even.

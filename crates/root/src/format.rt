@@ -46,7 +46,7 @@ pub trait Binary: Copy {
 
     /// The float of the pattern at the word's lower end.
     fn from_pattern(b: u64) -> Self
-        ensures { datum result ≡ from_bits format (b % (2 * top format)) };
+        ensures value { datum result ≡ from_bits format (b % (2 * top format)) };
 
     ghost digits_is: { DIGITS ≡ prec format };
 
@@ -85,7 +85,7 @@ impl Binary for f32 {
     ghost datum = { λ v. v };
 
     fn to_pattern(self) -> u64 {
-        f32_to_bits_with_nan(self) as u64
+        u64::from(f32_to_bits_with_nan(self))
     }
 
     fn from_pattern(b: u64) -> f32 {
