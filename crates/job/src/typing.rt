@@ -34,7 +34,7 @@ fn write<T: Scalar>(cells: &mut [Option<T>], place: Place, x: T)
 }
 
 impl<T: Scalar> Job<T> {
-    // A number typed at a row and a column.
+    // A number typed at a row and a column, which stand apart until they are known to be a place of the table.
     pub fn put(&mut self, row: usize, column: usize, x: T) -> Result<(), Rejected>
         ensures outcome { (reported result, typed self.new) ≡ putting T.ops T.Real.real (typed self.old) row column x }
     {

@@ -17,6 +17,7 @@ pub trait Keeper<T: Scalar> {
     fn rows(&self) -> usize
         ensures count { result ≡ length (kept self.now).rows };
 
+    // Row and column stand apart: a struct of the two would be made for each read and taken apart in it.
     fn read(&self, row: usize, column: usize) -> Result<T, Fault>
         ensures answer { answered result ≡ cell_at (kept self.now).rows row column };
 

@@ -64,6 +64,7 @@ impl Desk {
         }
     }
 
+    // Row and column stand apart until the job has found them to be a place of its table.
     fn enter(self, row: usize, column: usize, x: f64) -> Result<Applied, Stopped>
         ensures outcome { after_of result ≡ enters (desk_of self) row column x }
     {
