@@ -6,5 +6,6 @@ pub mod Outcome
 pub mod Runs
 pub mod Reduce
 pub mod Hermitian
+pub mod Squares
 pub mod Tables
 pub mod Tridiagonal

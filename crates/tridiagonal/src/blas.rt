@@ -4,8 +4,10 @@ ghost use borrow.Rule.Slice.PartMut.{put_mid};
 ghost use Rattle.tridiagonal.specs.Blas.{no_sums, running_sums, dotc_of};
 ghost use Rattle.tridiagonal.specs.Blas.{axc_of, axcpy_of, axpy_of, norm_squared_of, norm_of, unscaled, normalised};
 ghost use Rattle.tridiagonal.specs.Hermitian.{row_sum, below_sum, first_sum, first_column, hegemv_of, hegerc_of};
+ghost use Rattle.tridiagonal.specs.Squares.{SameSquare};
 ghost use Rattle.tridiagonal.specs.Tables.{lower, put};
 
+use crate::square::Square;
 use crate::sums::{Sums, plus_product};
 use scalar::{Arithmetic, RealScalar, Scalar};
 
@@ -135,44 +137,56 @@ fn hegemv_column<T: Scalar>(alpha: T, column: &[T], x: &[T], p: &mut [T])
     axpy(&mut p[1..], alpha.mul(x[0]), &column[1..], T::one());
 }
 
-// p becomes alpha·(A·x), where A is the Hermitian square of a table of n rows from row and column k on, of which
-// the lower triangle is read. t holds the table's columns from k on.
-pub(crate) fn hegemv<T: Scalar>(t: &[T], n: usize, k: usize, alpha: T, x: &[T], p: &mut [T])
-    requires some { k < n }
-    requires held { length t.now ≡ (n - k) * n }
-    requires as_x { length x.now ≡ n - k }
-    requires as_p { length p.old ≡ n - k }
-    ensures { p.new ≡ hegemv_of T.ops alpha (lower n k (n - k) t.now) x.now }
-{
-    hegemv_first(alpha, column(t, n, 0, k), x, p);
-    for j in 1..n - k {
-        hegemv_column(alpha, column(t, n, j, k + j), &x[j..], &mut p[j..]);
+impl<T: Scalar> Square<'_, T> {
+    // The lower part of the square's column j, from its diagonal entry down.
+    fn column(&self, j: usize) -> &[T]
+        requires { j < self.now.n - self.now.k }
+        ensures { result.now ≡ take (self.now.n - (self.now.k + j))
+            (drop (j * self.now.n + (self.now.k + j)) self.now.cells.now) }
+    {
+        column(self.cells, self.n, j, self.k + j)
     }
-}
 
-// Column j of a table of n rows, from row r down, gets a·x added.
-fn axpy_column<T: Scalar>(t: &mut [T], n: usize, j: usize, r: usize, a: T, x: &[T])
-    requires rows { r ≤ n }
-    requires held { j * n + n ≤ length t.old }
-    requires as_x { length x.now ≡ n - r }
-    ensures { t.new ≡ put_mid (j * n + r) (j * n + n - (j * n + r)) t.old
-        (axpy_of T.ops a x.now T.ops.one (take (n - r) (drop (j * n + r) t.old))) }
-{
-    axpy(&mut t[j * n + r..j * n + n], a, x, T::one());
-}
+    // p becomes alpha·(A·x), where A is the Hermitian square.
+    pub(crate) fn hegemv(&self, alpha: T, x: &[T], p: &mut [T])
+        requires as_x { length x.now ≡ self.now.n - self.now.k }
+        requires as_p { length p.old ≡ self.now.n - self.now.k }
+        ensures { p.new ≡ hegemv_of T.ops alpha
+            (lower self.now.n self.now.k (self.now.n - self.now.k) self.now.cells.now) x.now }
+    {
+        hegemv_first(alpha, self.column(0), x, p);
+        for j in 1..self.n - self.k {
+            hegemv_column(alpha, self.column(j), &x[j..], &mut p[j..]);
+        }
+    }
 
-// A becomes A + alpha·(x·y*), on the lower triangle of that square.
-pub(crate) fn hegerc<T: Scalar>(t: &mut [T], n: usize, k: usize, alpha: T, x: &[T], y: &[T])
-    requires some { k < n }
-    requires held { length t.old ≡ (n - k) * n }
-    requires as_x { length x.now ≡ n - k }
-    requires as_y { length y.now ≡ n - k }
-    ensures table { t.new ≡ put n k (n - k) (hegerc_of T.ops alpha x.now y.now
-        (lower n k (n - k) t.old)) t.old }
-    ensures lower { lower n k (n - k) t.new ≡ hegerc_of T.ops alpha x.now y.now
-        (lower n k (n - k) t.old) }
-{
-    for j in 0..n - k {
-        axpy_column(t, n, j, k + j, alpha.mul(y[j].conjugate()), &x[j..]);
+    // The lower part of column j gets a·x added.
+    fn axpy_column(&mut self, j: usize, a: T, x: &[T])
+        requires within { j < self.old.n - self.old.k }
+        requires as_x { length x.now ≡ self.old.n - (self.old.k + j) }
+        ensures cells { let n = self.old.n in let at = j * n + (self.old.k + j) in let t = self.old.cells.now in
+            self.new.cells.now ≡ put_mid at (j * n + n - at) t
+            (axpy_of T.ops a x.now T.ops.one (take (n - (self.old.k + j)) (drop at t))) }
+        ensures same { SameSquare self.old self.new }
+    {
+        let (from, to) = (j * self.n + (self.k + j), j * self.n + self.n);
+        axpy(&mut self.cells[from..to], a, x, T::one());
+    }
+
+    // A becomes A + alpha·(x·y*), on its lower triangle.
+    pub(crate) fn hegerc(&mut self, alpha: T, x: &[T], y: &[T])
+        requires as_x { length x.now ≡ self.old.n - self.old.k }
+        requires as_y { length y.now ≡ self.old.n - self.old.k }
+        ensures table { let m = self.old.n - self.old.k in
+            self.new.cells.now ≡ put self.old.n self.old.k m (hegerc_of T.ops alpha x.now y.now
+            (lower self.old.n self.old.k m self.old.cells.now)) self.old.cells.now }
+        ensures lower { let m = self.old.n - self.old.k in
+            lower self.old.n self.old.k m self.new.cells.now ≡ hegerc_of T.ops alpha x.now y.now
+            (lower self.old.n self.old.k m self.old.cells.now) }
+        ensures same { SameSquare self.old self.new }
+    {
+        for j in 0..self.n - self.k {
+            self.axpy_column(j, alpha.mul(y[j].conjugate()), &x[j..]);
+        }
     }
 }

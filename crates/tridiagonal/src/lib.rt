@@ -7,6 +7,7 @@ mod householder;
 mod matrix_q;
 mod reduction;
 mod reflection;
+mod square;
 mod sums;
 mod symmetric_tridiagonal;
 

@@ -6,36 +6,41 @@ ghost use Rattle.tridiagonal.specs.Checks.{refusal_for};
 ghost use Rattle.tridiagonal.specs.Outcome.{outcome_of, Reduced};
 ghost use Rattle.tridiagonal.specs.Reduce.{largest_size};
 ghost use Rattle.tridiagonal.specs.Runs.{buffers, call, ReduceRun, OnlyLower};
+ghost use Rattle.tridiagonal.specs.Squares.{SameSquare};
 ghost use Rattle.tridiagonal.specs.Tables.{lower, put};
 ghost use Rattle.tridiagonal.specs.Tridiagonal.{diagonal, updated, stepped_column, stepped_rest, reduced_columns, reduced_norms};
 
-use crate::blas::{dotc, hegemv, hegerc, unscale};
+use crate::blas::{dotc, unscale};
 use crate::checks::check;
 use crate::householder::reflection_axis_mut;
 use crate::reduction::Reduction;
+use crate::square::Square;
 use fault::Fault;
 use scalar::{Arithmetic, RealScalar, Scalar};
 
-// Reflects the square from row and column k on from both sides. t holds the columns from k on, p is room to work in.
-fn update<T: Scalar>(t: &mut [T], n: usize, k: usize, axis: &[T], p: &mut [T])
-    requires some { k < n }
-    requires held { length t.old ≡ (n - k) * n }
-    requires as_axis { length axis.now ≡ n - k }
-    requires as_p { length p.old ≡ n - k }
-    ensures { t.new ≡ put n k (n - k)
-        (updated (kind T.ops T.Real.ops T.Real.real) axis.now
-        (lower n k (n - k) t.old)) t.old }
-{
-    let two = T::from_real(T::Real::TWO);
-    hegemv(t, n, k, two, axis, p);
-    let dot = dotc(axis, p);
-    let minus_one = T::one().neg();
-    hegerc(t, n, k, minus_one, p, axis);
-    hegerc(t, n, k, minus_one, axis, p);
-    hegerc(t, n, k, dot.mul(two), axis, axis);
+impl<T: Scalar> Square<'_, T> {
+    // Reflects the square from both sides. p is room to work in.
+    fn update(&mut self, axis: &[T], p: &mut [T])
+        requires as_axis { length axis.now ≡ self.old.n - self.old.k }
+        requires as_p { length p.old ≡ self.old.n - self.old.k }
+        ensures cells { let m = self.old.n - self.old.k in
+            self.new.cells.now ≡ put self.old.n self.old.k m
+            (updated (kind T.ops T.Real.ops T.Real.real) axis.now
+            (lower self.old.n self.old.k m self.old.cells.now)) self.old.cells.now }
+        ensures same { SameSquare self.old self.new }
+    {
+        let two = T::from_real(T::Real::TWO);
+        self.hegemv(two, axis, p);
+        let dot = dotc(axis, p);
+        let minus_one = T::one().neg();
+        self.hegerc(minus_one, p, axis);
+        self.hegerc(minus_one, axis, p);
+        self.hegerc(dot.mul(two), axis, axis);
+    }
 }
 
-// That, where there is a reflection: a function of its own, so that the test is proved alone.
+// That, where there is a reflection: a function of its own, so that the test is proved alone. It takes a slice, since of a
+// part that is lent to a square, as step lends one, a proof knows the length alone afterwards (at `returns` of step).
 fn update_where<T: Scalar>(reflects: bool, t: &mut [T], n: usize, k: usize, axis: &[T], p: &mut [T])
     requires some { k < n }
     requires held { length t.old ≡ (n - k) * n }
@@ -46,7 +51,8 @@ fn update_where<T: Scalar>(reflects: bool, t: &mut [T], n: usize, k: usize, axis
         (lower n k (n - k) t.old)) t.old else t.old) }
 {
     if reflects {
-        update(t, n, k, axis, p);
+        let mut square = Square { cells: t, n, k };
+        square.update(axis, p);
     }
 }
 

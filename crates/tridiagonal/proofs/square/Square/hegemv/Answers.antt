@@ -6,18 +6,19 @@ use Rattle.tridiagonal.specs.Tables.{lower}
 use Rattle.tridiagonal.proofs.Columns.{column_next, lower_more, lower_none}
 use Rattle.tridiagonal.proofs.Lent.{end_written}
 use Rattle.tridiagonal.proofs.Products.{hegemv_start, hegemv_more, hegemv_all}
-use Rattle.tridiagonal.proofs.blas.hegemv.Goals as goal
+use Rattle.tridiagonal.proofs.square.Square.hegemv.Goals as goal
 
 pub loop-j-init : goal.loop-j-init
 loop-j-init g c =
-    let n = c.args.n in let k = c.args.k in let t = c.args.t.now in
+    let n = c.args.self.now.n in let k = c.args.self.now.k in let t = c.args.self.now.cells.now in
     let o = g.T.Arithmetic.ops in
     let all : k + (n - k) ≡ n = omega arith in
     let some : 0 < n - k = omega arith in
     let one : 1 * n ≡ 0 + n = omega (arith, one-mul n) in
-    let from : 0 * n + k ≡ 0 + k = omega (arith, zero-mul n) in
+    let from : 0 * n + (k + 0) ≡ 0 + k = omega (arith, zero-mul n) in
+    let long : n - (k + 0) ≡ n - k = omega arith in
     let cols = lower_more n k (n - k) 0 (1 * n) t all some one in
-    let col = c.column.ensures ∙ ap (λ (i : ℕ). take (n - k) (drop i t)) from in
+    let col = c.column.ensures ∙ ap (λ (m : ℕ). take m (drop (0 * n + (k + 0)) t)) long ∙ ap (λ (i : ℕ). take (n - k) (drop i t)) from in
     let made = c.hegemv_first.ensures
     ∙ ap (λ (l : List g.row.T.Denot). first_sum o c.args.alpha l c.args.x.now ∷
     drop 1 (first_column o c.args.alpha l c.args.x.now)) col in
@@ -26,7 +27,7 @@ loop-j-init g c =
 
 pub loop-j-preserved : goal.loop-j-preserved
 loop-j-preserved g c =
-    let n = c.args.n in let k = c.args.k in let j = c.loop-j.j in let t = c.args.t.now in
+    let n = c.args.self.now.n in let k = c.args.self.now.k in let j = c.loop-j.j in let t = c.args.self.now.cells.now in
     let x = c.args.x.now in let p = c.loop-j.p in let a = c.args.alpha in
     let o = g.T.Arithmetic.ops in
     let q = put_mid j (length p - j) p c.hegemv_column.new.p in
@@ -50,8 +51,8 @@ loop-j-preserved g c =
 
 pub returns : goal.returns
 returns g c =
-    let n = c.args.n in let k = c.args.k in let j = c.loop-j.j in
+    let n = c.args.self.now.n in let k = c.args.self.now.k in let j = c.loop-j.j in
     let none : n - k - j ≡ 0 = omega arith in
-    let cols = ap (λ (m : ℕ). lower n (k + j) m (drop (j * n) c.args.t.now)) none
-    ∙ lower_none n (k + j) (drop (j * n) c.args.t.now) in
+    let cols = ap (λ (m : ℕ). lower n (k + j) m (drop (j * n) c.args.self.now.cells.now)) none
+    ∙ lower_none n (k + j) (drop (j * n) c.args.self.now.cells.now) in
     let all = hegemv_all g.T.Arithmetic.ops c.args.alpha (drop j c.args.x.now) c.loop-j.p j in cc c.loop-j.invariant
