@@ -26,7 +26,8 @@ fn chunk_sums<T: Scalar>(x: &[T], y: &[T]) -> Sums<T>
 }
 
 // The dot product of the conjugate of x with y: eight running sums while eight entries are left, added up in
-// pairs, and then the entries that are left.
+// pairs, and then the entries that are left. x and y stand apart, here and below: a struct of two slices of one length
+// would be made for each call and taken apart in it.
 pub(crate) fn dotc<T: Scalar>(x: &[T], y: &[T]) -> T
     requires { length x.now ≡ length y.now }
     ensures { result ≡ dotc_of T.ops x.now y.now }
@@ -155,6 +156,7 @@ impl<T: Scalar> Square<'_, T> {
             (lower self.now.n self.now.k (self.now.n - self.now.k) self.now.cells.now) x.now }
     {
         hegemv_first(alpha, self.column(0), x, p);
+        // By index: a column, x and p each begin one further down than those before.
         for j in 1..self.n - self.k {
             hegemv_column(alpha, self.column(j), &x[j..], &mut p[j..]);
         }
@@ -185,6 +187,7 @@ impl<T: Scalar> Square<'_, T> {
             (lower self.old.n self.old.k m self.old.cells.now) }
         ensures same { SameSquare self.old self.new }
     {
+        // By index: a column and x each begin one further down than those before.
         for j in 0..self.n - self.k {
             self.axpy_column(j, alpha.mul(y[j].conjugate()), &x[j..]);
         }

@@ -1,5 +1,6 @@
 // The reduction of a symmetric or Hermitian table to tridiagonal form.
-ghost use Rattle.std.specs.Prelude.{◌≡◌, ◌+◌, ◌-◌, ◌*◌, ◌<◌, ◌≤◌, cond, ◌∷◌, fold, map, length, take, drop, if◌then◌else◌, None};
+ghost use Rattle.std.specs.Prelude.{◌≡◌, ◌+◌, ◌-◌, ◌*◌, ◌<◌, ◌≤◌, ◌∷◌, length, take, drop};
+ghost use Rattle.std.specs.Prelude.{cond, fold, map, if◌then◌else◌, None};
 ghost use Rattle.tridiagonal.specs.Householder.{kind, axis_norm};
 ghost use Rattle.tridiagonal.specs.Blas.{unscaled};
 ghost use Rattle.tridiagonal.specs.Checks.{refusal_for};
