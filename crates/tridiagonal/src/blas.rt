@@ -163,6 +163,7 @@ impl<T: Scalar> Square<'_, T> {
     }
 
     // The lower part of column j gets a·x added.
+    #[tactic(auto, using(crate::proofs::Columns::column_held))]
     fn axpy_column(&mut self, j: usize, a: T, x: &[T])
         requires within { j < self.old.n - self.old.k }
         requires as_x { length x.now ≡ self.old.n - (self.old.k + j) }
