@@ -80,7 +80,7 @@ impl<A, B> Both<A, B> {
         Ok(())
     }
 
-    // Refuses nothing: what is held against the check counts as width 0 and no rows.
+    // Its signature is fixed and cannot refuse: where `check` does, the keeper has width 0 and no rows.
     pub fn new<T: Scalar>(first: A, second: B) -> Both<A, B>
     where
         A: Keeper<T>,
