@@ -29,11 +29,10 @@ fn untyped<T: Scalar>(heap: Global, side: usize) -> Result<Vec<Option<T>>, Alloc
     requires { side ≤ 32 }
     ensures { IfOk result (λ v. v.items ≡ replicate (side * side) None) }
 {
-    let mut cells = Vec::new(heap);
-    cells.resize(side * side, None)?;
-    Ok(cells)
+    vec![in heap; None; side * side]
 }
 
+// A job's type keeps its side, tolerance and limit within their bounds.
 impl<T: Scalar> Job<T> {
     // A table of zeros, with tolerance 2^-52 and limit 1000.
     pub fn open(heap: Global, side: usize) -> Result<Self, Unopened>
@@ -52,7 +51,6 @@ impl<T: Scalar> Job<T> {
         })
     }
 
-    // A job's type keeps its side, tolerance and limit within their bounds.
     pub fn side(&self) -> usize
         ensures value { result ≡ (typed self.now).side }
         ensures lawful { is_side result ≡ true }
@@ -87,6 +85,7 @@ impl<T: Scalar> Job<T> {
     pub fn entry(&self, row: usize, column: usize) -> T
         ensures value { result ≡ entry_at T.ops (typed self.now) row column }
     {
+        // No and_then: its closure would have to say again that the place is one of this table (`index-requires`).
         match Place::new(self.side, row, column) {
             Some(place) => number_of(self.cells[place.index()]),
             None => T::zero(),

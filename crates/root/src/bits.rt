@@ -1,4 +1,4 @@
-//! From the bit pattern of a number to that of its root.
+// From the bit pattern of a number to that of its root.
 ghost use Rattle.std.specs.Prelude.{◌≡◌, ◌+◌, ◌-◌, ◌*◌, ◌/◌, ◌%◌, ◌^◌, ◌<◌, ◌≤◌};
 ghost use Rattle.std.specs.Float.Ieee.{prec, hid, ones, top, size};
 ghost use Rattle.root.specs.Root.{significand, scale, root_at, root_bits};

@@ -1,4 +1,4 @@
-//! The whole part of a root, a binary digit for each two of the number.
+// The whole part of a root, a binary digit for each two of the number.
 ghost use Rattle.std.specs.Prelude.{◌≡◌, suc, ◌+◌, ◌-◌, ◌*◌, ◌/◌, ◌^◌, ◌<◌, ◌≤◌, if◌then◌else◌, nat_le};
 ghost use Rattle.root.specs.Root.{whole_root};
 ghost use Rattle.root.specs.Whole.{Floor};
@@ -30,7 +30,7 @@ fn draw(root: u64, rest: u64, window: u64, left: u64) -> u64
     )
 }
 
-// The half of a number, rounded up.
+// The half of a number, rounded up: apart from `nearest_root`, so that it is proved by itself, without the digits.
 fn half_up(s: u64) -> u64
     requires { s < 2 ^ 60 }
     ensures { result ≡ (s + 1) / 2 }

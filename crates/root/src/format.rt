@@ -1,4 +1,4 @@
-//! The two binary formats: the numbers of each, and the way between a float and its bit pattern.
+// The two binary formats: the numbers of each, and the way between a float and its bit pattern.
 ghost use Rattle.std.specs.Prelude.{◌≡◌, ℕ, ◌-◌, ◌*◌, ◌%◌, ◌<◌, T, from_bits, to_bits, refl, Float};
 ghost use Rattle.std.specs.Float.{Format, binary32, binary64};
 ghost use Rattle.std.specs.Float.Ieee.{prec, emax, hid, ones, top, fits};
@@ -7,21 +7,21 @@ use std::num::{
     f32_from_bits_with_nan, f32_to_bits_with_nan, f64_from_bits_with_nan, f64_to_bits_with_nan,
 };
 
-/// A type whose values are the floats of a binary format.
+// A type whose values are the floats of a binary format.
 pub trait Binary: Copy {
-    /// How many digits a significand has.
+    // How many digits a significand has.
     const DIGITS: u64;
 
-    /// The weight of its leading digit, of which the exponent's field counts the multiples.
+    // The weight of its leading digit, of which the exponent's field counts the multiples.
     const HIDDEN: u64;
 
-    /// The pattern of infinity.
+    // The pattern of infinity.
     const INFINITY: u64;
 
-    /// The pattern of -0, the weight of the sign.
+    // The pattern of -0, the weight of the sign.
     const SIGN: u64;
 
-    /// What leads from a number's place to twice that of its root.
+    // What is added to a number's place to make twice the place of its root.
     const RISE: u64;
 
     ghost DIGITS: { ℕ };
@@ -38,13 +38,13 @@ pub trait Binary: Copy {
 
     ghost datum: { Self → Float };
 
-    /// The bit pattern, and of every NaN the quiet one.
+    // The bit pattern, and of every NaN the quiet one.
     fn to_pattern(self) -> u64
         ensures pattern { result ≡ to_bits format (datum self) }
         ensures bound { result < 2 * top format }
         ensures fits { T (fits format (datum self)) };
 
-    /// The float of the pattern at the word's lower end.
+    // The float of the pattern at the word's lower end.
     fn from_pattern(b: u64) -> Self
         ensures value { datum result ≡ from_bits format (b % (2 * top format)) };
 

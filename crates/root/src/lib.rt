@@ -1,4 +1,4 @@
-//! The square root of binary64 and binary32, correctly rounded, drawn a binary digit at a time in whole numbers.
+// The square root of binary64 and binary32, correctly rounded, drawn a binary digit at a time in whole numbers.
 #![tactic(auto)]
 
 mod bits;
@@ -13,7 +13,7 @@ ghost use Rattle.root.specs.Root.{IsRoot, root_bits, root_of};
 use bits::root_bits;
 pub use format::Binary;
 
-// The root, drawn on the pattern.
+// The root, drawn on the pattern: apart from `root`, so that its equation is proved by itself, before what is said of other floats.
 fn drawn<F: Binary>(v: F) -> F
     ensures value { F.datum result ≡ from_bits F.format (root_bits F.format (to_bits F.format (F.datum v))) }
     ensures fits { T (fits F.format (F.datum v)) }
@@ -21,7 +21,7 @@ fn drawn<F: Binary>(v: F) -> F
     F::from_pattern(root_bits::<F>(v.to_pattern()))
 }
 
-/// The root of v: of a zero that zero, of infinity infinity, and a NaN of a NaN and of what is below zero.
+// The root of v: a zero for that zero, infinity for infinity, and NaN for NaN and for what is below zero.
 pub fn root<F: Binary>(v: F) -> F
     ensures value { F.datum result ≡ root_of F.format (F.datum v) }
     ensures defined { IsRoot F.format (F.datum v) (F.datum result) }
@@ -37,7 +37,7 @@ fn two() -> f64
     f64::from_pattern(0x4000_0000_0000_0000)
 }
 
-/// The pattern of the root of 2.
+// The pattern of the root of 2.
 pub fn root_of_two() -> u64
     ensures pattern { result ≡ 0x3FF6A09E667F3BCD }
     ensures value { root_of binary64 (from_bits binary64 0x4000000000000000) ≡ from_bits binary64 result }

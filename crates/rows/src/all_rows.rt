@@ -11,7 +11,7 @@ use crate::turn::Turn;
 use fault::Fault;
 use scalar::{Arithmetic, Scalar};
 
-// The counts stand beside the caller's slice, since nothing here allocates.
+// The counts stand beside the slice: `new` is handed all three, and nothing here allocates.
 #[derive(Drop)]
 pub struct AllRows<'a, T> {
     width: usize,
@@ -33,7 +33,7 @@ impl<'a, T: Scalar> AllRows<'a, T> {
         Ok(())
     }
 
-    // Refuses nothing: what is held against the check counts as width 0 and no rows.
+    // Its signature is fixed and cannot refuse: where `check` does, the keeper has width 0 and no rows.
     pub fn new(width: usize, count: usize, cells: &'a mut [T]) -> AllRows<'a, T>
         ensures kept { all_rows T.ops.zero result.width result.count result.cells.now ≡
             all_rows T.ops.zero width count cells.old }

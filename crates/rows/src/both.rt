@@ -29,40 +29,6 @@ fn fit<T: Scalar, A: Keeper<T>, B: Keeper<T>>(first: &A, second: &B) -> bool
     Both::<A, B>::check::<T>(first, second).is_ok()
 }
 
-fn read_either<T: Scalar, A: Keeper<T>, B: Keeper<T>>(
-    first: &A,
-    second: &B,
-    row: usize,
-    column: usize,
-) -> Result<T, Fault>
-    ensures { answered result ≡
-        either_cell (A.kept first.now).rows (B.kept second.now).rows row column }
-{
-    let count = first.rows();
-    if row < count {
-        first.read(row, column)
-    } else {
-        second.read(row - count, column)
-    }
-}
-
-// Two keepers of one width refuse the same turns.
-fn turn_each<T: Scalar, A: Keeper<T>, B: Keeper<T>>(
-    first: &mut A,
-    second: &mut B,
-    turn: &Turn<T::Real>,
-) -> Result<(), Fault>
-    requires { (A.kept first.old).width ≡ (B.kept second.old).width }
-    ensures answer { answered result ≡ turn_answer (A.kept first.old) turn.now.column }
-    ensures first { A.kept first.new ≡
-        kept_turned T.ops turn.now (A.kept first.old) }
-    ensures second { B.kept second.new ≡
-        kept_turned T.ops turn.now (B.kept second.old) }
-{
-    first.turn(turn)?;
-    second.turn(turn)
-}
-
 impl<A, B> Both<A, B> {
     pub fn check<T: Scalar>(first: &A, second: &B) -> Result<(), Fault>
     where
@@ -80,7 +46,7 @@ impl<A, B> Both<A, B> {
         Ok(())
     }
 
-    // Refuses nothing: what is held against the check counts as width 0 and no rows.
+    // Its signature is fixed and cannot refuse: where `check` does, the keeper has width 0 and no rows.
     pub fn new<T: Scalar>(first: A, second: B) -> Both<A, B>
     where
         A: Keeper<T>,
@@ -89,6 +55,37 @@ impl<A, B> Both<A, B> {
             both (A.kept first) (B.kept second) }
     {
         Both { first, second }
+    }
+
+    fn read_either<T: Scalar>(&self, row: usize, column: usize) -> Result<T, Fault>
+    where
+        A: Keeper<T>,
+        B: Keeper<T>,
+        ensures { answered result ≡
+            either_cell (A.kept self.now.first).rows (B.kept self.now.second).rows row column }
+    {
+        let count = self.first.rows();
+        if row < count {
+            self.first.read(row, column)
+        } else {
+            self.second.read(row - count, column)
+        }
+    }
+
+    // Two keepers of one width refuse the same turns.
+    fn turn_each<T: Scalar>(&mut self, turn: &Turn<T::Real>) -> Result<(), Fault>
+    where
+        A: Keeper<T>,
+        B: Keeper<T>,
+        requires { (A.kept self.old.first).width ≡ (B.kept self.old.second).width }
+        ensures answer { answered result ≡ turn_answer (A.kept self.old.first) turn.now.column }
+        ensures first { A.kept self.new.first ≡
+            kept_turned T.ops turn.now (A.kept self.old.first) }
+        ensures second { B.kept self.new.second ≡
+            kept_turned T.ops turn.now (B.kept self.old.second) }
+    {
+        self.first.turn(turn)?;
+        self.second.turn(turn)
     }
 
     pub fn first(&self) -> &A
@@ -130,13 +127,13 @@ impl<T: Scalar, A: Keeper<T>, B: Keeper<T>> Keeper<T> for Both<A, B> {
         if !fit(&self.first, &self.second) {
             return Err(Fault::Column);
         }
-        read_either(&self.first, &self.second, row, column)
+        self.read_either::<T>(row, column)
     }
 
     fn turn(&mut self, turn: &Turn<T::Real>) -> Result<(), Fault> {
         if !fit(&self.first, &self.second) {
             return Err(Fault::Column);
         }
-        turn_each(&mut self.first, &mut self.second, turn)
+        self.turn_each::<T>(turn)
     }
 }

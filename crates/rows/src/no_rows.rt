@@ -18,7 +18,7 @@ pub struct NoRows {
 pub(crate) fn width_fits(width: usize) -> bool
     ensures { result ≡ width_fits width }
 {
-    1 <= width && width <= 512
+    (1..=512).contains(&width)
 }
 
 impl NoRows {
@@ -31,7 +31,7 @@ impl NoRows {
         Ok(())
     }
 
-    // Refuses nothing: against the check it has width 0.
+    // Its signature is fixed and cannot refuse: where `check` does, the keeper has width 0.
     pub fn new(width: usize) -> NoRows
         ensures width { result.width ≡ no_rows_width width }
     {

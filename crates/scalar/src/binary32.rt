@@ -1,5 +1,5 @@
 // The kind binary32: each operation of `f32` rounds once, to nearest, ties to even.
-// Each format apart: most bodies are one operator, of which an impl over both needs a law; a function on `RealScalar` leads back here.
+// Written for each format: `rt ci` refuses an impl by a macro, and one over both would need a law for each operator that is one line here.
 ghost use Rattle.std.specs.Prelude.{refl};
 ghost use Rattle.std.specs.Float.{binary32};
 ghost use Rattle.std.specs.Float.Ieee.{neg};

@@ -15,7 +15,7 @@ impl<R: RealScalar> Arithmetic for Complex<R> {
     }
 
     fn is_zero(self) -> bool {
-        self.re.is_zero() & self.im.is_zero()
+        self.re.is_zero() && self.im.is_zero()
     }
 
     fn one() -> Complex<R> {

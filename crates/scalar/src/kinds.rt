@@ -4,6 +4,7 @@ ghost use Rattle.std.specs.Prelude.{◌≡◌, T};
 ghost use Rattle.scalar.specs.Ops.{Ops, RealOps, LargerLaws, RealLaws, SizeLaws};
 
 // The operations that every kind has; `Part` is the kind that its sizes belong to.
+// They are named, and not bounds on std's operators: each is the one that docs/NUMBERS.md lists, with its fixed result.
 pub trait Arithmetic: Copy {
     type Part: Copy;
 

@@ -7,7 +7,7 @@ ghost use Rattle.tridiagonal.specs.Outcome.{refused_in};
 use fault::Fault;
 use scalar::{Arithmetic, RealScalar, Scalar};
 
-// The place of the first entry whose size is not finite.
+// The place of the first entry whose size is not finite: apart from its refusal, so that the search is proved alone.
 fn first_not_finite<T: Scalar>(table: &[T]) -> Option<usize>
     ensures { result ≡ position (λ x. not (T.Real.real.is_finite (T.ops.size x))) table.now }
 {
@@ -42,7 +42,7 @@ pub(crate) fn check<T: Scalar>(
     ensures { refused_in result ≡ refusal_for (kind T.ops T.Real.ops T.Real.real) n
         table.now values.now offs.now signs.now scratch.now }
 {
-    if n == 0 || n > 512 {
+    if !(1..=512).contains(&n) {
         return Err(Fault::Side);
     }
     let lengths = [

@@ -18,7 +18,7 @@ fn unit_entry<T: Scalar>(i: usize, j: usize) -> T
     if i == j { T::one() } else { T::zero() }
 }
 
-// The identity, column by column.
+// The identity, column by column. The side and the table stand apart, here and below, as in `reduce`.
 fn identity<T: Scalar>(n: usize, q: &mut [T])
     requires some { 0 < n }
     requires held { length q.old ≡ n * n }
@@ -30,6 +30,7 @@ fn identity<T: Scalar>(n: usize, q: &mut [T])
 }
 
 // The sign that a reflection is applied with: the reported norm's own, which is -1 at -0, where the sign split gives 1.
+// Apart from `assemble_q`, so that the choice of this sign is proved alone.
 fn norm_sign<T: Scalar>(norm: T) -> T
     ensures { result ≡ T.ops.sign norm }
 {

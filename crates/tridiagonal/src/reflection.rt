@@ -12,6 +12,7 @@ pub(crate) fn reflect_with_sign<T: Scalar>(axis: &[T], column: &mut [T], sign: T
     ensures { column.new ≡ reflected (kind T.ops T.Real.ops T.Real.real) axis.now sign column.old }
 {
     let minus_two = sign.scale(T::Real::MINUS_TWO);
+    // Less the plane's bias, as in nalgebra: it is zero here, and the definition takes it off too.
     let factor = dotc(axis, column).sub(T::zero()).mul(minus_two);
     axpy(column, factor, axis, sign);
 }

@@ -3,6 +3,7 @@ ghost use Rattle.std.specs.Prelude.{◌≡◌, ◌-◌, ◌*◌, ◌<◌, length
 
 // The square of a table of n rows from row and column k on: the table's columns from k on, of which the lower triangle
 // is read and written.
+// That a vector has the square's side is said in the contracts: it is a fact about the two.
 #[derive(Drop)]
 pub(crate) struct Square<'a, T> {
     pub(crate) cells: &'a mut [T],

@@ -40,8 +40,8 @@ impl<T: Scalar> Square<'_, T> {
     }
 }
 
-// That, where there is a reflection: a function of its own, so that the test is proved alone. It takes a slice, since of a
-// part that is lent to a square, as step lends one, a proof knows the length alone afterwards (at `returns` of step).
+// Updates the square from row and column k on, where the column reflects: apart, so that the test is proved alone. It takes a
+// slice: of a part that step lent to a square a proof would know the length alone afterwards (at `returns` of step).
 fn update_where<T: Scalar>(reflects: bool, t: &mut [T], n: usize, k: usize, axis: &[T], p: &mut [T])
     requires some { k < n }
     requires held { length t.old ≡ (n - k) * n }
@@ -58,7 +58,8 @@ fn update_where<T: Scalar>(reflects: bool, t: &mut [T], n: usize, k: usize, axis
 }
 
 // One step: the part of column i below the diagonal becomes an axis, whose norm is the answer, and where there is a
-// reflection the square right of it and below is reflected. t holds the columns from i on; `axis` and p are room to work in.
+// reflection the square right of it and below is reflected. t holds the columns from i on, a slice as in `update_where`;
+// `axis` and p are room to work in.
 fn step<T: Scalar>(t: &mut [T], n: usize, i: usize, axis: &mut [T], p: &mut [T]) -> T
     requires some { i + 1 < n }
     requires held { length t.old ≡ (n - i) * n }
@@ -77,6 +78,7 @@ fn step<T: Scalar>(t: &mut [T], n: usize, i: usize, axis: &mut [T], p: &mut [T])
 }
 
 // All steps: the lower columns are reduced, and signs gets the norms. scratch is room to work in.
+// The side and the table stand apart, here and below, as in `reduce`: a struct of the two would be made and taken apart in each.
 fn reduce_columns<T: Scalar>(n: usize, table: &mut [T], signs: &mut [T], scratch: &mut [T])
     requires some { 0 < n }
     requires held { length table.old ≡ n * n }
@@ -101,7 +103,7 @@ fn reduce_columns<T: Scalar>(n: usize, table: &mut [T], signs: &mut [T], scratch
     }
 }
 
-// The largest of a size and those of some entries.
+// The largest of a size and those of some entries: apart from `largest_size`, so that the fold is proved alone.
 fn largest_from<T: Scalar>(first: T::Real, rest: &[T]) -> T::Real
     ensures { result ≡ fold (λ l x. T.Real.real.larger l (T.ops.size x)) first rest.now }
 {
