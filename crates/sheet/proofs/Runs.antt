@@ -4,7 +4,7 @@ use Rattle.std.proofs.lemmas.List.{append-nil, drop_all}
 use Rattle.std.proofs.lemmas.Bool.{cases_lt}
 use Rattle.sheet.specs.declared.text.Heading.{Heading}
 use Rattle.sheet.specs.Commands.{Found, nothing, found, wrong, code_of, coded}
-use Rattle.sheet.specs.Faults.{Why, rule, memory, numbered}
+use Rattle.sheet.specs.Faults.{Why}
 use Rattle.sheet.specs.Desk.{room_for, State, idle, Table, After, goes, closes, stops, applying}
 use Rattle.sheet.specs.Listings.{Listed, headed, heading_of}
 use Rattle.sheet.specs.Sheets.{Reading, ended, closed, broken, turning, reading, table_from, Run, stop, following, running, run_from, run}
@@ -87,11 +87,6 @@ pub fewer : (room : Bool) (s : List ℕ) (p after : ℕ) (t : Table) → closed 
 fewer room s p after t e =
     ⊎_elim (λ inside. omega (arith, advances room (drop p s) 0 p after idle t e)) (λ out. absurd (nowhere room s p after t e out))
     (cases_lt p (length s))
-
--- A refusal that has a number is no want of memory.
-pub numbered_room : (w : Why) (n : ℕ) → Some n ≡ numbered w → room_for w ≡ true
-numbered_room (rule known) n e = refl
-numbered_room memory n e = absurd (cc)
 
 -- Where the lister stands: what it has and what is left give the whole.
 pub record Lists (s : List ℕ) (hs : List Heading) (p : ℕ) : Type 0 where

@@ -1,10 +1,10 @@
 // What one command does at the desk. The checks of each go in the order of their numbers, but for the solver's, which come
 // before `Twice`.
-ghost use Rattle.std.specs.Prelude.{◌≡◌};
+ghost use Rattle.std.specs.Prelude.{◌≡◌, Err, MatchResult};
 ghost use Rattle.job.specs.Rejections.{reported};
 ghost use Rattle.sheet.specs.Commands.{said};
 ghost use Rattle.sheet.specs.Desk.{after_of, applying, begun, closing, desk_of, enters, enters_outline, limits, off_real};
-ghost use Rattle.sheet.specs.Desk.{open_of, roomy, starting_kind, starts, state_of, stops, tolerates, typing};
+ghost use Rattle.sheet.specs.Desk.{idle, open_of, out_of_order, roomy, starting_kind, starts, state_of, stops, tolerates, typing};
 ghost use Rattle.sheet.specs.Faults.{why};
 ghost use Rattle.sheet.specs.Laws.{Unchanged};
 
@@ -17,20 +17,20 @@ use scalar::{Arithmetic, Complex};
 use std::alloc::Global;
 
 // The desk stays as it was.
-fn refuse(table: Option<Table>, fault: SheetFault) -> Result<Applied, Stopped>
-    ensures outcome { after_of result ≡ stops (why fault) (open_of table) }
+fn stopped(table: Option<Table>, fault: SheetFault) -> Stopped
+    ensures outcome { after_of (Err result) ≡ stops (why fault) (open_of table) }
 {
     let desk = Desk { table };
-    Err(Stopped { fault, desk })
+    Stopped { fault, desk }
 }
 
-// A table after something was typed into it.
+// A table after something was typed into it. A match, since either way the table goes on.
 fn typed(table: Table, answer: Result<(), Rejected>) -> Result<Applied, Stopped>
     ensures outcome { after_of result ≡ typing (reported answer) (state_of table) }
 {
     match answer {
         Ok(()) => Ok(Applied::Goes(Desk { table: Some(table) })),
-        Err(why) => refuse(Some(table), why.into()),
+        Err(why) => Err(stopped(Some(table), why.into())),
     }
 }
 
@@ -56,12 +56,18 @@ impl Desk {
         ensures outcome { after_of result ≡ starts (roomy (after_of result)) (desk_of self) kind side }
     {
         if self.table.is_some() {
-            return refuse(self.table, SheetFault::Order);
+            return Err(stopped(self.table, SheetFault::Order));
         }
-        match open_table(heap, kind, side) {
-            Ok(table) => Ok(Applied::Goes(Desk { table: Some(table) })),
-            Err(fault) => refuse(None, fault),
-        }
+        let table = open_table(heap, kind, side).map_err(|fault| stopped(None, fault))?;
+        Ok(Applied::Goes(Desk { table: Some(table) }))
+    }
+
+    // The table that is open, which the command needs.
+    fn opened(self) -> Result<Table, Stopped>
+        ensures opened { MatchResult result (λ table. state_of table ≡ desk_of self)
+            (λ s. (desk_of self ≡ idle) × (after_of (Err s) ≡ out_of_order idle)) }
+    {
+        self.table.ok_or(stopped(None, SheetFault::Order))
     }
 
     // Row and column stand apart until the job has found them to be a place of its table.
@@ -73,7 +79,7 @@ impl Desk {
                 let answer = job.put(row, column, x);
                 typed(Table::Real(job), answer)
             }
-            table => refuse(table, SheetFault::Order),
+            table => Err(stopped(table, SheetFault::Order)),
         }
     }
 
@@ -89,7 +95,7 @@ impl Desk {
         match self.table {
             Some(Table::Outline(mut job)) => {
                 if is_off_real(row, column, along) {
-                    return refuse(Some(Table::Outline(job)), SheetFault::Operand);
+                    return Err(stopped(Some(Table::Outline(job)), SheetFault::Operand));
                 }
                 let x = Complex {
                     re: across,
@@ -98,16 +104,14 @@ impl Desk {
                 let answer = job.put(row, column, x);
                 typed(Table::Outline(job), answer)
             }
-            table => refuse(table, SheetFault::Order),
+            table => Err(stopped(table, SheetFault::Order)),
         }
     }
 
     fn set_tolerance(self, tolerance: f64) -> Result<Applied, Stopped>
         ensures outcome { after_of result ≡ tolerates (desk_of self) tolerance }
     {
-        let Some(mut table) = self.table else {
-            return refuse(None, SheetFault::Order);
-        };
+        let mut table = self.opened()?;
         let answer = table.set_tolerance(tolerance);
         typed(table, answer)
     }
@@ -115,9 +119,7 @@ impl Desk {
     fn set_limit(self, limit: u32) -> Result<Applied, Stopped>
         ensures outcome { after_of result ≡ limits (desk_of self) limit }
     {
-        let Some(mut table) = self.table else {
-            return refuse(None, SheetFault::Order);
-        };
+        let mut table = self.opened()?;
         let answer = table.set_limit(limit);
         typed(table, answer)
     }
@@ -125,9 +127,7 @@ impl Desk {
     fn close(self, asked: Asked) -> Result<Applied, Stopped>
         ensures outcome { after_of result ≡ closing (desk_of self) asked }
     {
-        let Some(table) = self.table else {
-            return refuse(None, SheetFault::Order);
-        };
+        let table = self.opened()?;
         Ok(Applied::Closes(Closed { asked, table }))
     }
 
@@ -135,6 +135,7 @@ impl Desk {
     fn applied(self, heap: Global, command: Command<'_>) -> Result<Applied, Stopped>
         ensures outcome { after_of result ≡ applying (roomy (after_of result)) (desk_of self) (said command.entry) }
     {
+        // operands by their offsets: kind 0, side 1; row 0, column 2, entry 4, an outline entry's second part 12
         match command {
             Command::Open(it) => self.open(heap, it.u8_at(0), usize::from(it.u16_at(1))),
             Command::Entry(it) => {

@@ -9,7 +9,7 @@ ghost use Rattle.sheet.specs.declared.sheet_fault.SheetFault.TheVariants.{Memory
 use crate::desk::Closed;
 use crate::listing::Listing;
 use crate::read::next_table;
-use crate::sheet_fault::SheetFault;
+use crate::sheet_fault::{Refusal, SheetFault};
 use crate::text::Heading;
 use fault::Fault;
 use std::alloc::Global;
@@ -30,7 +30,7 @@ impl Closed {
     }
 }
 
-// The heading of a table that is let go: here, so that the loop does not part by the kind of table that it drops.
+// Takes the table, so that it is dropped here: in the loop each kind of table would be a case of the proof.
 fn heading_of(table: Closed) -> Heading
     ensures heading { result ≡ heading_of (table_of table) }
 {
@@ -54,14 +54,16 @@ fn list_tables(heap: Global, sheet: &[u8]) -> Result<Listing, SheetFault>
                 headings,
                 refusal: None,
             }),
-            // a refusal without a number is want of memory
-            Err(refusal) => match refusal.fault.number() {
-                Some(_) => return Ok(Listing {
-                    headings,
-                    refusal: Some(refusal),
-                }),
-                None => return Err(SheetFault::Memory),
-            },
+            Err(
+                Refusal {
+                    fault: SheetFault::Memory,
+                    ..
+                },
+            ) => return Err(SheetFault::Memory),
+            Err(refusal) => return Ok(Listing {
+                headings,
+                refusal: Some(refusal),
+            }),
         }
     }
 }
@@ -81,7 +83,7 @@ pub fn list_sheet(heap: Global, sheet: &[u8]) -> Result<Listing, SheetFault>
     if sheet.len() > LONGEST {
         return Ok(Listing {
             headings: Vec::new(heap),
-            refusal: Some(SheetFault::Solver(Fault::Length).at(0)),
+            refusal: Some(SheetFault::from(Fault::Length).at(0)),
         });
     }
     list_tables(heap, sheet)

@@ -14,6 +14,7 @@ pub struct Operands<'a> {
 }
 
 impl Operands<'_> {
+    // A method for each width: `from_le_bytes` belongs to no trait.
     pub(crate) fn u8_at(self, i: usize) -> u8
         ensures value { result ≡ field i 1 self.entry.bytes.now }
     {

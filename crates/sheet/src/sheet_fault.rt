@@ -88,7 +88,7 @@ impl SheetFault {
         Refusal { fault: self, place }
     }
 
-    // The number that a listing tells it by.
+    // The number that a listing tells it by; a variant that bears a value has no discriminant to cast.
     pub fn number(self) -> Option<u8>
         ensures number { result ≡ number_of self }
     {

@@ -15,11 +15,11 @@ pub struct Heading {
     pub largest: u64,
 }
 
-// What a listing tells of a refusal.
+// What a listing tells of a refusal: the number and no `SheetFault`, since `refusal_line` is public and takes any number.
 #[derive(Clone, Copy, PartialEq, Eq, Debug)]
-pub struct Refused {
-    pub number: u8,
-    pub place: usize,
+pub(crate) struct Refused {
+    pub(crate) number: u8,
+    pub(crate) place: usize,
 }
 
 impl fmt::Display for Kind {

@@ -1,7 +1,6 @@
-use Rattle.std.proofs.Common.{vec_items, sym, ◌∙◌}
+use Rattle.std.proofs.Common.{vec_items}
 use Rattle.sheet.specs.Desk.{table_of}
-use Rattle.sheet.specs.Faults.{why}
-use Rattle.sheet.proofs.Runs.{fewer, list_broken, list_ended, list_more, numbered_room}
+use Rattle.sheet.proofs.Runs.{fewer, list_ended, list_more}
 use Rattle.sheet.proofs.list.list_tables.Goals as goal
 
 pub returns-in-Ok-None-clause-listing : goal.returns-in-Ok-None-clause-listing
@@ -19,10 +18,3 @@ tables-preserved c =
     list_more c.args.sheet.now (vec_items c.tables.headings) c.tables.place c.tables.invariant (table_of c.in-Ok-Some.reading.table)
     c.in-Ok-Some.reading.after (vec_items c.push.new.self) (rw c.in-Ok-Some.field-0-is at c.in-Ok-Some.ensures.reading)
     (rw c.heading_of.ensures.heading at c.in_ok-push-in-Ok-Some.ensures.items)
-
-pub returns-in-Some-clause-listing : goal.returns-in-Some-clause-listing
-returns-in-Some-clause-listing c =
-    list_broken c.args.sheet.now (vec_items c.tables.headings) c.tables.place c.tables.invariant
-    (why c.in-Err.refusal.fault) c.in-Err.refusal.place
-    (numbered_room (why c.in-Err.refusal.fault) c.in-Some.field-0 (sym c.in-Some.is ∙ c.number.ensures.number))
-    c.in-Err.ensures.reading
