@@ -4,6 +4,7 @@
 ghost use Rattle.std.specs.Prelude.{◌≡◌, length};
 ghost use Rattle.cases.specs.Cases.{Hold, cases};
 
+// A function of its own: a wrong number is refused here, and not in the proof of the cases.
 fn number_of_cases() -> u8
     ensures count { result ≡ length cases }
 {

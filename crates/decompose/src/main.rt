@@ -5,7 +5,6 @@
 use eigen::settle;
 use fault::Fault;
 use rows::{AllRows, Both, Keeper};
-use std::fmt;
 use std::num::f64_to_bits_with_nan;
 use tridiagonal::{Reduction, assemble, reduce};
 
@@ -41,13 +40,9 @@ fn reduced(q: &mut [f64]) -> Result<Form, Fault> {
 }
 
 // A refusal, by its number.
-#[derive(Clone, Copy)]
-struct Refused(Fault);
-
-impl fmt::Display for Refused {
-    fn fmt<W: fmt::Write>(&self, f: &mut fmt::Formatter<W>) -> fmt::Result {
-        write!(f, "refused {}", self.0.number())
-    }
+fn print_refusal(rt: &HostRuntime, fault: Fault) -> anyhow::Result<()> {
+    println!(rt; "refused {}", fault.number())?;
+    Ok(())
 }
 
 // By index: a keeper is read by row and column, and lends no rows to loop over.
@@ -79,7 +74,7 @@ fn settled<K: Keeper<f64>>(rt: &HostRuntime, form: Form, keeper: &mut K) -> anyh
         1000,
     ) {
         Ok(passes) => println!(rt; "passes {passes}")?,
-        Err(why) => println!(rt; "{}", Refused(Fault::from(why)))?,
+        Err(why) => print_refusal(rt, Fault::from(why))?,
     }
     for x in values {
         println!(rt; "value {:016X}", f64_to_bits_with_nan(x))?;
@@ -87,33 +82,32 @@ fn settled<K: Keeper<f64>>(rt: &HostRuntime, form: Form, keeper: &mut K) -> anyh
     print_rows(rt, keeper)
 }
 
-fn run<K: Keeper<f64>>(
+fn with_all_rows(rt: &HostRuntime, form: Form, q: &mut [f64]) -> anyhow::Result<()> {
+    settled(rt, form, &mut AllRows::new(3, 3, q))
+}
+
+fn with_both(rt: &HostRuntime, form: Form, q: &mut [f64]) -> anyhow::Result<()> {
+    let mut unit = [1.0, 0.0, 0.0, 0.0, 1.0, 0.0, 0.0, 0.0, 1.0];
+    let first = AllRows::new(3, 3, q);
+    let second = AllRows::new(3, 3, &mut unit);
+    settled(rt, form, &mut Both::new::<f64>(first, second))
+}
+
+// Reduces the table, and goes on with what is left and Q.
+fn run<F: FnOnce(&HostRuntime, Form, &mut [f64]) -> anyhow::Result<()>>(
     rt: &HostRuntime,
-    form: Result<Form, Fault>,
-    keeper: &mut K,
-) -> anyhow::Result<()> {
-    match form {
-        Ok(form) => settled(rt, form, keeper),
-        Err(fault) => Ok(println!(rt; "{}", Refused(fault))?),
+    go_on: F,
+) -> anyhow::Result<()>
+    requires { F.IsAlwaysCallable go_on }
+{
+    let mut q = [0.0; 9];
+    match reduced(&mut q) {
+        Ok(form) => go_on(rt, form, &mut q),
+        Err(fault) => print_refusal(rt, fault),
     }
 }
 
-fn with_all_rows(rt: &HostRuntime) -> anyhow::Result<()> {
-    let mut q = [0.0; 9];
-    let form = reduced(&mut q);
-    run(rt, form, &mut AllRows::new(3, 3, &mut q))
-}
-
-fn with_both(rt: &HostRuntime) -> anyhow::Result<()> {
-    let mut q = [0.0; 9];
-    let form = reduced(&mut q);
-    let mut unit = [1.0, 0.0, 0.0, 0.0, 1.0, 0.0, 0.0, 0.0, 1.0];
-    let first = AllRows::new(3, 3, &mut q);
-    let second = AllRows::new(3, 3, &mut unit);
-    run(rt, form, &mut Both::new::<f64>(first, second))
-}
-
 fn main(rt: HostRuntime) -> anyhow::Result<()> {
-    with_all_rows(&rt)?;
-    with_both(&rt)
+    run(&rt, with_all_rows)?;
+    run(&rt, with_both)
 }

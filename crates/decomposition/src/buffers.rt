@@ -10,9 +10,7 @@ use std::alloc::{AllocError, Global};
 pub(crate) fn zeros<T: Arithmetic>(heap: Global, count: usize) -> Result<Vec<T>, AllocError>
     ensures count { IfOk result (λ v. length v.items ≡ count) }
 {
-    let mut buffer = Vec::new(heap);
-    buffer.resize(count, T::zero())?;
-    Ok(buffer)
+    vec![in heap; T::zero(); count]
 }
 
 // The number that a keeper holds at a row and a column, and zero outside.

@@ -9,13 +9,15 @@ use crate::buffers::{columns_of, zeros};
 use crate::failure::Failure;
 use crate::form::Form;
 use crate::solved::Solved;
-use crate::steps::{reduced, settled};
+use crate::steps::reduced;
+use eigen::settle;
+use fault::Fault;
 use rows::{AllRows, Keeper, NoRows};
 use scalar::{Arithmetic, RealScalar, Scalar};
 use std::alloc::Global;
 use tridiagonal::assemble;
 
-// All rows of a square matrix that stands column by column.
+// All rows of a square matrix that stands column by column. A function of its own: that no row is left out is found here, in one step.
 fn square_rows<'a, T: Scalar>(side: usize, cells: &'a mut [T]) -> AllRows<'a, T>
     ensures kept { all_rows T.ops.zero result.width result.count result.cells.now ≡ all_rows T.ops.zero side side cells.old }
 {
@@ -44,7 +46,14 @@ fn solved<T: Scalar, K: Keeper<T>>(
         signs: _,
     } = form;
     let largest = reduction.largest();
-    let passes = settled::<T, K>(reduction, &mut values, &mut offs, keeper, tolerance, limit)?;
+    let passes = settle::<T, K>(
+        reduction,
+        &mut values,
+        &mut offs,
+        keeper,
+        tolerance,
+        limit,
+    ).map_err(Fault::from)?;
     let vectors = columns_of(heap, keeper)?;
     Ok(Solved {
         largest,
@@ -55,7 +64,7 @@ fn solved<T: Scalar, K: Keeper<T>>(
 }
 
 // The eigenvalues of a table of side n, column by column, of which the lower triangle and the largest size are read.
-// The tolerance and the limit stand apart, as `settle` takes them.
+// The side, the tolerance and the limit stand apart, as `reduce` and `settle` take them.
 #[tactic(auto, using(crate::proofs::Whole::unformed))]
 pub fn symmetric_eigenvalues<T: Scalar>(
     heap: Global,

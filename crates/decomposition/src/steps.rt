@@ -1,18 +1,14 @@
 // The steps of a decomposition.
-ghost use Rattle.rows.specs.Keepers.{answered};
-ghost use Rattle.eigen.specs.Laws.{IsRun, start_of, finish_of};
 ghost use Rattle.tridiagonal.specs.Householder.{kind};
 ghost use Rattle.decomposition.specs.Forms.{Reduces};
 
 use crate::buffers::zeros;
 use crate::failure::Failure;
 use crate::form::Form;
-use eigen::settle;
 use fault::Fault;
-use rows::Keeper;
 use scalar::{Arithmetic, RealScalar, Scalar};
 use std::alloc::Global;
-use tridiagonal::{Reduction, reduce};
+use tridiagonal::reduce;
 
 // The table reduced, in buffers that are made for its side.
 // `reduce` looks at the side too, but memory for a side that it refuses must not be asked for.
@@ -24,8 +20,8 @@ pub(crate) fn reduced<T: Scalar>(
 ) -> Result<Form<T>, Failure>
     ensures form { Reduces (kind T.ops T.Real.ops T.Real.real) n table.items result }
 {
-    if n == 0 || n > 512 {
-        return Err(Failure::Solver(Fault::Side));
+    if !(1..=512).contains(&n) {
+        return Err(Fault::Side.into());
     }
     let mut values = zeros(heap, n)?;
     let mut offs = zeros(heap, n - 1)?;
@@ -46,22 +42,4 @@ pub(crate) fn reduced<T: Scalar>(
         offs,
         signs,
     })
-}
-
-// Settles a reduction, with the refusal alone where it does not settle.
-pub(crate) fn settled<T: Scalar, K: Keeper<T>>(
-    reduction: Reduction<T::Real>,
-    values: &mut [T::Real],
-    offs: &mut [T::Real],
-    keeper: &mut K,
-    tolerance: T::Real,
-    limit: u32,
-) -> Result<u32, Fault>
-    ensures run { IsRun T.ops T.Real.ops T.Real.real
-        (start_of reduction.side reduction.largest values.old offs.old tolerance
-        (K.kept keeper.old)) limit
-        (finish_of (answered result) values.new offs.new (K.kept keeper.new)) }
-{
-    let passes = settle::<T, K>(reduction, values, offs, keeper, tolerance, limit)?;
-    Ok(passes)
 }

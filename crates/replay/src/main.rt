@@ -27,10 +27,16 @@ fn run<T: Sample>(rt: &HostRuntime, name: &str, case: Case) -> anyhow::Result<()
 }
 
 // The tables of one side: one of each shape, but graded only where it is small.
-fn runs<T: Sample>(rt: &HostRuntime, name: &str, side: usize) -> anyhow::Result<()> {
-    let mut seed = (side as u64).wrapping_mul(1000);
-    for shape in [Shape::Dense, Shape::OwnUpper, Shape::Banded, Shape::Graded] {
-        seed = seed.wrapping_add(1);
+fn runs<T: Sample>(rt: &HostRuntime, name: &str, side: u16) -> anyhow::Result<()> {
+    let shapes = [
+        (Shape::Dense, 1),
+        (Shape::OwnUpper, 2),
+        (Shape::Banded, 3),
+        (Shape::Graded, 4),
+    ];
+    for (shape, n) in shapes {
+        let seed = u64::from(side).wrapping_mul(1000).wrapping_add(n);
+        let side = usize::from(side);
         if side <= 33 || shape != Shape::Graded {
             run::<T>(rt, name, Case { side, seed, shape })?;
         }

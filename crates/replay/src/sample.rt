@@ -1,6 +1,6 @@
 // The kinds that are compared: how a number is drawn, made smaller, and fed to the hash.
 use crate::random::{Hash, Random};
-use scalar::{Arithmetic, Complex, RealScalar, Scalar};
+use scalar::{Complex, RealScalar, Scalar};
 use std::num::{
     f32_from_bits_with_nan, f32_to_bits_with_nan, f64_from_bits_with_nan, f64_to_bits_with_nan,
     nearest_u64_to_f32, nearest_u64_to_f64,
@@ -23,10 +23,15 @@ pub(crate) trait RealSample: RealScalar + Feed {
     fn power(k: u32) -> Self;
 }
 
-// A kind over a real kind that can be drawn. A real kind's numbers are all drawn as those of a diagonal are.
+// A kind over a real kind that can be drawn.
 pub(crate) trait Sample: Scalar<Real: RealSample> + Feed {
-    fn draw(random: &mut Random, _diagonal: bool) -> Self {
+    // A number of the diagonal.
+    fn draw_real(random: &mut Random) -> Self {
         Self::from_real(Self::Real::unit(random))
+    }
+
+    fn draw(random: &mut Random) -> Self {
+        Self::draw_real(random)
     }
 }
 
@@ -53,6 +58,7 @@ impl RealSample for f64 {
 
     const TOLERANCE: f64 = f64::EPSILON;
 
+    // 53 bits over 2^52
     fn unit(random: &mut Random) -> f64 {
         nearest_u64_to_f64(random.next() >> 11) / 4503599627370496.0 - 1.0
     }
@@ -67,6 +73,7 @@ impl RealSample for f32 {
 
     const TOLERANCE: f32 = f32::EPSILON;
 
+    // 24 bits over 2^23
     fn unit(random: &mut Random) -> f32 {
         nearest_u64_to_f32(random.next() >> 40) / 8388608.0 - 1.0
     }
@@ -81,9 +88,9 @@ impl Sample for f64 {}
 impl Sample for f32 {}
 
 impl<R: RealSample> Sample for Complex<R> {
-    fn draw(random: &mut Random, diagonal: bool) -> Complex<R> {
+    fn draw(random: &mut Random) -> Complex<R> {
         let re = R::unit(random);
-        let im = if diagonal { R::zero() } else { R::unit(random) };
+        let im = R::unit(random);
         Complex { re, im }
     }
 }

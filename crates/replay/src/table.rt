@@ -16,6 +16,7 @@ pub(crate) enum Shape {
 }
 
 impl Shape {
+    // The exponent is cast: no From leads from usize to u32.
     fn shaped<T: Sample>(self, x: T, row: usize, column: usize) -> T {
         match self {
             Shape::Banded if row.wrapping_sub(column) > 1 => T::zero(),
@@ -50,16 +51,21 @@ impl<T: Sample> Table<T> {
     // By index: an entry is written at its place and, conjugated, at the mirrored one.
     fn fill_column(&mut self, random: &mut Random, shape: Shape, column: usize) {
         for row in column..self.side {
-            let x = shape.shaped(T::draw(random, row == column), row, column);
+            let drawn = if row == column {
+                T::draw_real(random)
+            } else {
+                T::draw(random)
+            };
+            let x = shape.shaped(drawn, row, column);
             self.put(column, row, x.conjugate());
             self.put(row, column, x);
         }
     }
 
-    // Row `column` to the right of the diagonal, which stands in no slice of its own.
-    fn fill_above(&mut self, random: &mut Random, column: usize) {
-        for row in column.saturating_add(1)..self.side {
-            self.put(column, row, T::draw(random, false).scale(T::Real::FOUR));
+    // The row to the right of the diagonal, which stands in no slice of its own.
+    fn fill_above(&mut self, random: &mut Random, row: usize) {
+        for column in row.saturating_add(1)..self.side {
+            self.put(row, column, T::draw(random).scale(T::Real::FOUR));
         }
     }
 }
@@ -75,8 +81,8 @@ pub(crate) fn drawn<T: Sample>(heap: Global, case: Case) -> Result<Vec<T>, Alloc
         table.fill_column(&mut random, shape, column);
     }
     if shape == Shape::OwnUpper {
-        for column in 0..side {
-            table.fill_above(&mut random, column);
+        for row in 0..side {
+            table.fill_above(&mut random, row);
         }
     }
     Ok(table.cells)
