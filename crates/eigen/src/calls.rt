@@ -41,6 +41,7 @@ pub fn settle<T: Scalar, K: Keeper<T>>(
         (K.kept keeper.old))
         (finish_of (answer_of result) values.new offs.new (K.kept keeper.new)) }
 {
+    // No map_err: its closure would take the reduction from the run.
     if let Err(fault) = check::<T, K>(&reduction, values, offs, keeper, tolerance, limit) {
         return Err(Unsettled::Refused { fault, reduction });
     }

@@ -10,7 +10,7 @@ use crate::delimit::Block;
 use crate::eigenvalues::{Vector2, compute_2x2_eigvals};
 use crate::form::Tridiagonal;
 use crate::givens::try_new;
-use rows::{Direction, Keeper, Turn};
+use rows::{Direction, Keeper};
 use scalar::{Arithmetic, RealScalar, Scalar};
 
 // The eigenvector of the eigenvalue x of a block of two: of its two forms, the one less likely to have lost its digits.
@@ -58,17 +58,14 @@ fn turn_to<T: Scalar, K: Keeper<T>>(
     ensures rows { K.kept keeper.new ≡ kept_all T.ops
         (basis_turns T.Real.ops T.Real.real tolerance start basis) (K.kept keeper.old) }
 {
-    if let Some(found) = try_new(basis.x, basis.y, tolerance) {
-        let _ = keeper.turn(&Turn {
-            column: start,
-            c: found.rotation.c,
-            s: found.rotation.s,
-            direction: Direction::Forward,
-        });
+    if let Some(found) = try_new(basis, tolerance) {
+        // Nothing is lost: a refused turn turns nothing, as `kept_turned` says.
+        let _ = keeper.turn(&found.rotation.turn(start, Direction::Forward));
     }
 }
 
 // The block of two at `start` takes its eigenvalues in closed form, or stays as it is where they are not real.
+// An Option of nothing, for the `?` here and in `pass`.
 fn settle_pair<T: Scalar, K: Keeper<T>>(
     form: &mut Tridiagonal<'_, T::Real>,
     keeper: &mut K,
