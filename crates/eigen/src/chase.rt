@@ -55,6 +55,18 @@ impl<R: RealScalar> Tridiagonal<'_, R> {
         }
     }
 
+    // The block of the entries i and i + 1.
+    pub(crate) fn corner_at(&self, i: usize) -> Corner<R>
+        requires { i < length self.now.offs.now }
+        ensures corner { result ≡ corner_at R.ops R.real self.now.values.now self.now.offs.now i }
+    {
+        Corner {
+            mii: self.values[i],
+            mij: self.offs[i],
+            mjj: self.values[i + 1],
+        }
+    }
+
     fn rotate_corner(&mut self, i: usize, rotation: Rotation<R>)
         requires { i < length self.old.offs.now }
         ensures values { self.new.values.now ≡ corner_values R.ops R.real
@@ -65,12 +77,7 @@ impl<R: RealScalar> Tridiagonal<'_, R> {
             (corner_at R.ops R.real self.old.values.now self.old.offs.now i)).mij }
         ensures same { SameBuffers self.old self.new }
     {
-        let old = Corner {
-            mii: self.values[i],
-            mij: self.offs[i],
-            mjj: self.values[i + 1],
-        };
-        let new = old.rotated(rotation);
+        let new = self.corner_at(i).rotated(rotation);
         self.values[i] = new.mii;
         self.values[i + 1] = new.mjj;
         self.offs[i] = new.mij;
@@ -128,7 +135,7 @@ impl<R: RealScalar> Tridiagonal<'_, R> {
             self.now.values.now self.now.offs.now }
     {
         let Block { start, end } = block;
-        let shift = wilkinson_shift(self.values[end - 1], self.values[end], self.offs[end - 1]);
+        let shift = wilkinson_shift(self.corner_at(end - 1));
         Vector2 {
             x: self.values[start].sub(shift),
             y: self.offs[start],

@@ -16,6 +16,7 @@ pub(crate) struct Block {
 }
 
 // Falls from `from` until `stops` holds of the number below, or to 0.
+// No `rev().find(..)`: the check does not find that it ends where the definition does (`returns-clause-scan` of `end_from`).
 fn fall_to<F: Fn(usize) -> bool>(from: usize, stops: F) -> usize
     requires { (m : _) → m < from → F.pre stops m }
     ensures { Falls (F.post stops) from result }

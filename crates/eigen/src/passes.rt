@@ -5,7 +5,7 @@ ghost use Rattle.eigen.specs.Turnings.{kept_all};
 ghost use Rattle.eigen.specs.Forms.{SameBuffers};
 ghost use Rattle.eigen.specs.Passes.{basis_of, pair_at, basis_turns, pair_left, pair_exists, pass_left, pass_end};
 
-use crate::chase::chase;
+use crate::chase::{Corner, chase};
 use crate::delimit::Block;
 use crate::eigenvalues::{Vector2, compute_2x2_eigvals};
 use crate::form::Tridiagonal;
@@ -14,9 +14,14 @@ use rows::{Direction, Keeper};
 use scalar::{Arithmetic, RealScalar, Scalar};
 
 // The eigenvector of the eigenvalue x of a block of two: of its two forms, the one less likely to have lost its digits.
-fn basis_of<R: RealScalar>(x: R, first: R, second: R, off: R) -> Vector2<R>
-    ensures basis { result ≡ basis_of R.ops R.real x first second off }
+fn basis_of<R: RealScalar>(x: R, corner: Corner<R>) -> Vector2<R>
+    ensures basis { result ≡ basis_of R.ops R.real x corner.mii corner.mjj corner.mij }
 {
+    let Corner {
+        mii: first,
+        mij: off,
+        mjj: second,
+    } = corner;
     if x.sub(first).modulus().lt(x.sub(second).modulus()) {
         Vector2 {
             x: x.sub(second),
@@ -37,13 +42,7 @@ impl<R: RealScalar> Tridiagonal<'_, R> {
         ensures pair { result ≡
             pair_at R.ops R.real start self.now.values.now self.now.offs.now }
     {
-        let off = self.offs[start];
-        compute_2x2_eigvals(
-            self.values[start],
-            off,
-            off.conjugate(),
-            self.values[start + 1],
-        )
+        compute_2x2_eigvals(self.corner_at(start))
     }
 }
 
@@ -86,12 +85,7 @@ fn settle_pair<T: Scalar, K: Keeper<T>>(
         (K.kept keeper.old) }
 {
     let eigenvalues = form.pair_at(start)?;
-    let basis = basis_of(
-        eigenvalues.x,
-        form.values[start],
-        form.values[start + 1],
-        form.offs[start],
-    );
+    let basis = basis_of(eigenvalues.x, form.corner_at(start));
     form.values[start] = eigenvalues.x;
     form.values[start + 1] = eigenvalues.y;
     turn_to::<T, K>(keeper, start, basis, tolerance);
