@@ -1,10 +1,15 @@
 -- The search for the block of a tridiagonal form that a pass works on. Definitions only.
-use Rattle.std.specs.Prelude.{◌≡◌, ℕ, zero, suc, ◌+◌, ◌<◌, ◌≤◌, Bool, true, false, cond, ◌||◌, List, slice_index_or, slice_set}
+use Rattle.std.specs.Prelude.{◌≡◌, ℕ, zero, suc, ◌+◌, ◌<◌, ◌≤◌, Bool, true, false, cond, ◌||◌, List, Some, None, Option, slice_index_or, slice_set}
 use Rattle.scalar.specs.Ops.{Ops, RealOps}
 use Rattle.eigen.specs.declared.delimit.Block.{Block}
 
 abbrev pub block_of : ℕ → ℕ → Block
 block_of start end = record { start = start; end = end }
+
+-- a block found, or the single one at zero where none is
+abbrev pub block_in : Option Block → Block
+block_in None = block_of zero zero
+block_in (Some block) = block
 
 -- the first number at or below n whose predecessor stops the fall, or zero
 abbrev pub fall_to : (ℕ → Bool) → ℕ → ℕ

@@ -13,6 +13,7 @@ use tridiagonal::Reduction;
 
 // Settles a reduction with the values and off-diagonal entries that it left, and turns the keeper's rows along. The reduction is moved in:
 // what the checks refuse hands it back, and a run uses it up.
+// Each law of the run stands in a clause of its own, with what it starts from and comes to, so that each can be read alone.
 pub fn settle<T: Scalar, K: Keeper<T>>(
     reduction: Reduction<T::Real>,
     values: &mut [T::Real],
@@ -41,6 +42,7 @@ pub fn settle<T: Scalar, K: Keeper<T>>(
         (K.kept keeper.old))
         (finish_of (answer_of result) values.new offs.new (K.kept keeper.new)) }
 {
+    // No map_err: its closure would take the reduction from the run.
     if let Err(fault) = check::<T, K>(&reduction, values, offs, keeper, tolerance, limit) {
         return Err(Unsettled::Refused { fault, reduction });
     }

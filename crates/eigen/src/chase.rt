@@ -12,7 +12,7 @@ use crate::delimit::Block;
 use crate::eigenvalues::{Vector2, wilkinson_shift};
 use crate::form::Tridiagonal;
 use crate::givens::{Normed, Rotation, cancel_y};
-use rows::{Direction, Keeper, Turn};
+use rows::{Direction, Keeper};
 use scalar::{Arithmetic, RealScalar, Scalar};
 
 // The symmetric block (mii mij)(mij mjj).
@@ -43,7 +43,7 @@ impl<R: RealScalar> Corner<R> {
 }
 
 impl<R: RealScalar> Tridiagonal<'_, R> {
-    // Past the first rotation of a chase, its norm stands before the block.
+    // After the first rotation of a chase, each rotation's norm is written before its pair of entries.
     fn put_norm(&mut self, start: usize, i: usize, norm: R)
         requires { i < length self.old.offs.now }
         ensures values { self.new.values.now ≡ self.old.values.now }
@@ -52,6 +52,18 @@ impl<R: RealScalar> Tridiagonal<'_, R> {
     {
         if start < i {
             self.offs[i - 1] = norm;
+        }
+    }
+
+    // The block of the entries i and i + 1.
+    pub(crate) fn corner_at(&self, i: usize) -> Corner<R>
+        requires { i < length self.now.offs.now }
+        ensures corner { result ≡ corner_at R.ops R.real self.now.values.now self.now.offs.now i }
+    {
+        Corner {
+            mii: self.values[i],
+            mij: self.offs[i],
+            mjj: self.values[i + 1],
         }
     }
 
@@ -65,12 +77,7 @@ impl<R: RealScalar> Tridiagonal<'_, R> {
             (corner_at R.ops R.real self.old.values.now self.old.offs.now i)).mij }
         ensures same { SameBuffers self.old self.new }
     {
-        let old = Corner {
-            mii: self.values[i],
-            mij: self.offs[i],
-            mjj: self.values[i + 1],
-        };
-        let new = old.rotated(rotation);
+        let new = self.corner_at(i).rotated(rotation);
         self.values[i] = new.mii;
         self.values[i + 1] = new.mjj;
         self.offs[i] = new.mij;
@@ -128,7 +135,7 @@ impl<R: RealScalar> Tridiagonal<'_, R> {
             self.now.values.now self.now.offs.now }
     {
         let Block { start, end } = block;
-        let shift = wilkinson_shift(self.values[end - 1], self.values[end], self.offs[end - 1]);
+        let shift = wilkinson_shift(self.corner_at(end - 1));
         Vector2 {
             x: self.values[start].sub(shift),
             y: self.offs[start],
@@ -141,12 +148,8 @@ fn turn_back<T: Scalar, K: Keeper<T>>(keeper: &mut K, i: usize, rotation: Rotati
     ensures rows { K.kept keeper.new ≡
         kept_turned T.ops (turn_of i rotation.c rotation.s Back) (K.kept keeper.old) }
 {
-    let _ = keeper.turn(&Turn {
-        column: i,
-        c: rotation.c,
-        s: rotation.s,
-        direction: Direction::Back,
-    });
+    // Nothing is lost: a refused turn turns nothing, as `kept_turned` says.
+    let _ = keeper.turn(&rotation.turn(i, Direction::Back));
 }
 
 // The chase of the block, with one back turn of the keeper's rows for each rotation.
@@ -170,12 +173,10 @@ pub(crate) fn chase<T: Scalar, K: Keeper<T>>(
 {
     let mut bulge = form.first_bulge(block);
     'chase: for i in block.start..block.end {
-        match cancel_y(bulge.x, bulge.y) {
-            None => break 'chase,
-            Some(found) => {
-                bulge = form.step(block, i, found, bulge);
-                turn_back::<T, K>(keeper, i, found.rotation);
-            }
-        }
+        let Some(found) = cancel_y(bulge) else {
+            break 'chase;
+        };
+        bulge = form.step(block, i, found, bulge);
+        turn_back::<T, K>(keeper, i, found.rotation);
     }
 }

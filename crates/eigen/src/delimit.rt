@@ -1,13 +1,14 @@
 // The search for the block of a tridiagonal form that the next pass works on.
-ghost use Rattle.std.specs.Prelude.{◌≡◌, ◌<◌, ◌≤◌, length};
+ghost use Rattle.std.specs.Prelude.{◌≡◌, ◌<◌, ◌≤◌, Some, length};
 ghost use Rattle.eigen.specs.Blocks.{bound, above, within, negligible, end_from, start_from, cut_at, block_from, offs_from};
-ghost use Rattle.eigen.specs.Blocks.{Falls};
+ghost use Rattle.eigen.specs.Blocks.{Falls, block_in};
 ghost use Rattle.eigen.specs.Forms.{SameBuffers};
 
 use crate::form::Tridiagonal;
 use scalar::{Arithmetic, RealScalar};
 
 // That a block lies within its form is said in the contracts: it is a fact about the two.
+// Nor is start < end a field: the definitions of the search name what is left at the end as a block of start = end.
 #[derive(Clone, Copy)]
 pub(crate) struct Block {
     pub(crate) start: usize,
@@ -15,6 +16,7 @@ pub(crate) struct Block {
 }
 
 // Falls from `from` until `stops` holds of the number below, or to 0.
+// No `rev().find(..)`: the check does not find that it ends where the definition does (`returns-clause-scan` of `end_from`).
 fn fall_to<F: Fn(usize) -> bool>(from: usize, stops: F) -> usize
     requires { (m : _) → m < from → F.pre stops m }
     ensures { Falls (F.post stops) from result }
@@ -92,24 +94,22 @@ impl<R: RealScalar> Tridiagonal<'_, R> {
         }
     }
 
-    // The block to work on, at or below `end`. The entry before it is set to zero.
-    pub(crate) fn delimit_subproblem(&mut self, end: usize, tolerance: R) -> Block
+    // The block to work on, at or below `end`, or none where what is left is single. The entry before it is set to zero.
+    pub(crate) fn delimit_subproblem(&mut self, end: usize, tolerance: R) -> Option<Block>
         requires { end ≤ length self.old.offs.now }
-        ensures block { result ≡
+        ensures block { block_in result ≡
             block_from R.ops R.real tolerance self.old.values.now self.old.offs.now end }
         ensures values { self.new.values.now ≡ self.old.values.now }
         ensures offs { self.new.offs.now ≡
             offs_from R.ops R.real tolerance self.old.values.now self.old.offs.now end }
         ensures same { SameBuffers self.old self.new }
-        ensures ordered { result.start ≤ result.end }
-        ensures below { result.end ≤ end }
+        ensures ordered { (b : _) → result ≡ Some b → b.start < b.end }
+        ensures below { (block_in result).end ≤ end }
     {
         let last = self.end_from(end, tolerance);
-        if last == 0 {
-            return Block { start: 0, end: 0 };
-        }
-        let start = self.start_from(last - 1, tolerance);
+        let above = last.checked_sub(1)?;
+        let start = self.start_from(above, tolerance);
         self.cut_at(start);
-        Block { start, end: last }
+        Some(Block { start, end: last })
     }
 }

@@ -2,6 +2,7 @@
 ghost use Rattle.std.specs.Prelude.{◌≡◌};
 ghost use Rattle.eigen.specs.Eigenvalues.{half_difference, eigenvalues, wilkinson_shift};
 
+use crate::chase::Corner;
 use scalar::RealScalar;
 
 #[derive(Clone, Copy)]
@@ -16,15 +17,16 @@ fn half_difference<R: RealScalar>(a: R, b: R) -> R
     a.sub(b).mul(R::HALF)
 }
 
-// The eigenvalues of the block (h00 h01)(h10 h11), or none where they are not real.
-pub(crate) fn compute_2x2_eigvals<R: RealScalar>(
-    h00: R,
-    h10: R,
-    h01: R,
-    h11: R,
-) -> Option<Vector2<R>>
-    ensures values { result ≡ eigenvalues R.ops R.real h00 h10 h01 h11 }
+// The eigenvalues of the block, or none where they are not real.
+pub(crate) fn compute_2x2_eigvals<R: RealScalar>(corner: Corner<R>) -> Option<Vector2<R>>
+    ensures values { result ≡ eigenvalues R.ops R.real corner.mii corner.mij (R.ops.conj corner.mij) corner.mjj }
 {
+    let Corner {
+        mii: h00,
+        mij: h10,
+        mjj: h11,
+    } = corner;
+    let h01 = h10.conjugate();
     let value = half_difference(h00, h11);
     let discriminant = h10.mul(h01).add(value.mul(value));
     if R::zero().le(discriminant) {
@@ -39,11 +41,16 @@ pub(crate) fn compute_2x2_eigvals<R: RealScalar>(
     }
 }
 
-// Of the block (tmm tmn)(tmn tnn), the eigenvalue at its last entry.
+// The eigenvalue at the block's last entry.
 // The sign is `signum` and not the sign split's: that of -0 is -1.
-pub(crate) fn wilkinson_shift<R: RealScalar>(tmm: R, tnn: R, tmn: R) -> R
-    ensures shift { result ≡ wilkinson_shift R.ops R.real tmm tnn tmn }
+pub(crate) fn wilkinson_shift<R: RealScalar>(corner: Corner<R>) -> R
+    ensures shift { result ≡ wilkinson_shift R.ops R.real corner.mii corner.mjj corner.mij }
 {
+    let Corner {
+        mii: tmm,
+        mij: tmn,
+        mjj: tnn,
+    } = corner;
     let square = tmn.mul(tmn);
     if square.is_zero() {
         tnn

@@ -2,7 +2,9 @@
 ghost use Rattle.std.specs.Prelude.{◌≡◌, ◌+◌, length};
 
 // A tridiagonal form in the buffers that were handed in: values on the diagonal, and the entries beside it.
-// The tolerance is no field: beside the references, one of type R leaves open what stands behind them at the end (`returns` of `settle`).
+// The tolerance is no field: with a field of type R the caller learns nothing of the slices at the end (`returns` of `settle`).
+// The keeper is no field either: the search and each step work on the form alone, whatever the keeper.
+// That an index lies within the form is said in the contracts: it is a fact about the two.
 #[derive(Drop)]
 pub(crate) struct Tridiagonal<'a, R: Copy> {
     pub(crate) values: &'a mut [R],

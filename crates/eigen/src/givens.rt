@@ -1,13 +1,30 @@
 // Construction of Givens rotations of real numbers.
 ghost use Rattle.std.specs.Prelude.{◌≡◌};
+ghost use Rattle.rows.specs.Turns.{turn_of};
 ghost use Rattle.eigen.specs.Givens.{cancel_y, normed_of, try_new};
 
+use crate::eigenvalues::Vector2;
+use rows::{Direction, Turn};
 use scalar::RealScalar;
 
 #[derive(Clone, Copy)]
 pub(crate) struct Rotation<R: Copy> {
     pub(crate) c: R,
     pub(crate) s: R,
+}
+
+impl<R: Copy> Rotation<R> {
+    // The turn of the columns `column` and `column` + 1 that goes with the rotation.
+    pub(crate) fn turn(self, column: usize, direction: Direction) -> Turn<R>
+        ensures turn { result ≡ turn_of column self.c self.s direction }
+    {
+        Turn {
+            column,
+            c: self.c,
+            s: self.s,
+            direction,
+        }
+    }
 }
 
 // A rotation beside the length, with its sign, of the pair that it was made from.
@@ -40,10 +57,11 @@ fn normed_by<R: RealScalar>(modulus: R, sine: R, length: R, sign: R) -> Normed<R
     }
 }
 
-// The rotation that makes the second of (x, y) zero, or none where it is zero.
-pub(crate) fn cancel_y<R: RealScalar>(x: R, y: R) -> Option<Normed<R>>
-    ensures rotation { result ≡ cancel_y R.ops R.real x y }
+// The rotation that makes the vector's y zero, or none where it is zero.
+pub(crate) fn cancel_y<R: RealScalar>(vector: Vector2<R>) -> Option<Normed<R>>
+    ensures rotation { result ≡ cancel_y R.ops R.real vector.x vector.y }
 {
+    let Vector2 { x, y } = vector;
     if y.is_zero() {
         return None;
     }
@@ -51,10 +69,11 @@ pub(crate) fn cancel_y<R: RealScalar>(x: R, y: R) -> Option<Normed<R>>
     Some(normed_by(modulus, y.neg(), length(modulus, y), sign))
 }
 
-// The rotation of cosine and sine as x and y, or none where their length is not above the tolerance.
-pub(crate) fn try_new<R: RealScalar>(x: R, y: R, tolerance: R) -> Option<Normed<R>>
-    ensures rotation { result ≡ try_new R.ops R.real x y tolerance }
+// The rotation of cosine and sine as the vector's x and y, or none where its length is not above the tolerance.
+pub(crate) fn try_new<R: RealScalar>(vector: Vector2<R>, tolerance: R) -> Option<Normed<R>>
+    ensures rotation { result ≡ try_new R.ops R.real vector.x vector.y tolerance }
 {
+    let Vector2 { x, y } = vector;
     let (modulus, sign) = x.split_sign();
     let length = length(modulus, y);
     if tolerance.lt(length) {

@@ -5,18 +5,23 @@ ghost use Rattle.eigen.specs.Turnings.{kept_all};
 ghost use Rattle.eigen.specs.Forms.{SameBuffers};
 ghost use Rattle.eigen.specs.Passes.{basis_of, pair_at, basis_turns, pair_left, pair_exists, pass_left, pass_end};
 
-use crate::chase::chase;
+use crate::chase::{Corner, chase};
 use crate::delimit::Block;
 use crate::eigenvalues::{Vector2, compute_2x2_eigvals};
 use crate::form::Tridiagonal;
 use crate::givens::try_new;
-use rows::{Direction, Keeper, Turn};
+use rows::{Direction, Keeper};
 use scalar::{Arithmetic, RealScalar, Scalar};
 
 // The eigenvector of the eigenvalue x of a block of two: of its two forms, the one less likely to have lost its digits.
-fn basis_of<R: RealScalar>(x: R, first: R, second: R, off: R) -> Vector2<R>
-    ensures basis { result ≡ basis_of R.ops R.real x first second off }
+fn basis_of<R: RealScalar>(x: R, corner: Corner<R>) -> Vector2<R>
+    ensures basis { result ≡ basis_of R.ops R.real x corner.mii corner.mjj corner.mij }
 {
+    let Corner {
+        mii: first,
+        mij: off,
+        mjj: second,
+    } = corner;
     if x.sub(first).modulus().lt(x.sub(second).modulus()) {
         Vector2 {
             x: x.sub(second),
@@ -37,13 +42,7 @@ impl<R: RealScalar> Tridiagonal<'_, R> {
         ensures pair { result ≡
             pair_at R.ops R.real start self.now.values.now self.now.offs.now }
     {
-        let off = self.offs[start];
-        compute_2x2_eigvals(
-            self.values[start],
-            off,
-            off.conjugate(),
-            self.values[start + 1],
-        )
+        compute_2x2_eigvals(self.corner_at(start))
     }
 }
 
@@ -58,17 +57,14 @@ fn turn_to<T: Scalar, K: Keeper<T>>(
     ensures rows { K.kept keeper.new ≡ kept_all T.ops
         (basis_turns T.Real.ops T.Real.real tolerance start basis) (K.kept keeper.old) }
 {
-    if let Some(found) = try_new(basis.x, basis.y, tolerance) {
-        let _ = keeper.turn(&Turn {
-            column: start,
-            c: found.rotation.c,
-            s: found.rotation.s,
-            direction: Direction::Forward,
-        });
+    if let Some(found) = try_new(basis, tolerance) {
+        // Nothing is lost: a refused turn turns nothing, as `kept_turned` says.
+        let _ = keeper.turn(&found.rotation.turn(start, Direction::Forward));
     }
 }
 
 // The block of two at `start` takes its eigenvalues in closed form, or stays as it is where they are not real.
+// An Option of nothing, for the `?` here and in `pass`.
 fn settle_pair<T: Scalar, K: Keeper<T>>(
     form: &mut Tridiagonal<'_, T::Real>,
     keeper: &mut K,
@@ -89,12 +85,7 @@ fn settle_pair<T: Scalar, K: Keeper<T>>(
         (K.kept keeper.old) }
 {
     let eigenvalues = form.pair_at(start)?;
-    let basis = basis_of(
-        eigenvalues.x,
-        form.values[start],
-        form.values[start + 1],
-        form.offs[start],
-    );
+    let basis = basis_of(eigenvalues.x, form.corner_at(start));
     form.values[start] = eigenvalues.x;
     form.values[start + 1] = eigenvalues.y;
     turn_to::<T, K>(keeper, start, basis, tolerance);

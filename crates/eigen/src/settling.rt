@@ -12,12 +12,6 @@ use rows::Keeper;
 use scalar::{Arithmetic, RealScalar, Scalar};
 use tridiagonal::Reduction;
 
-fn are_lengths(values: usize, offs: usize, side: usize) -> bool
-    ensures answer { result ≡ (values == side && offs + 1 == side) }
-{
-    values == side && offs < side && side - offs == 1
-}
-
 fn is_unlawful<R: RealScalar>(tolerance: R) -> bool
     ensures answer { result ≡ unlawful R.ops R.real tolerance }
 {
@@ -27,10 +21,11 @@ fn is_unlawful<R: RealScalar>(tolerance: R) -> bool
 fn is_allowed(limit: u32) -> bool
     ensures answer { result ≡ allowed limit }
 {
-    1 <= limit && limit <= 1_000_000
+    (1..=1_000_000).contains(&limit)
 }
 
 // The first refusal that is due: of the lengths, the tolerance, the limit, the keeper's width.
+// Tolerance and limit stand apart, here and below, as in `settle`, whose signature is fixed.
 pub(crate) fn check<T: Scalar, K: Keeper<T>>(
     reduction: &Reduction<T::Real>,
     values: &[T::Real],
@@ -43,7 +38,7 @@ pub(crate) fn check<T: Scalar, K: Keeper<T>>(
         (length offs.now) tolerance limit (K.kept keeper.now).width reduction.now.side }
 {
     let side = reduction.side();
-    if !are_lengths(values.len(), offs.len(), side) {
+    if [values.len(), offs.len()] != [side, side - 1] {
         return Err(Fault::Length);
     }
     if is_unlawful(tolerance) {

@@ -20,7 +20,7 @@ fn scale_values<R: RealScalar>(values: &mut [R], largest: R)
     }
 }
 
-// Passes until the block found is single, or their count reaches the limit; answers the count.
+// Passes until no block is left, or their count reaches the limit; answers the count.
 pub(crate) fn run<T: Scalar, K: Keeper<T>>(
     form: &mut Tridiagonal<'_, T::Real>,
     keeper: &mut K,
@@ -43,11 +43,11 @@ pub(crate) fn run<T: Scalar, K: Keeper<T>>(
 {
     let mut block = form.delimit_subproblem(form.offs.len(), tolerance);
     'passes: for count in 0..limit {
-        if block.start == block.end {
+        let Some(found) = block else {
             scale_values(form.values, largest);
             return Ok(count);
-        }
-        let end = pass::<T, K>(form, keeper, block, tolerance).ok_or(Fault::Pair { count })?;
+        };
+        let end = pass::<T, K>(form, keeper, found, tolerance).ok_or(Fault::Pair { count })?;
         block = form.delimit_subproblem(end, tolerance);
     }
     Err(Fault::NotSettled { count: limit })

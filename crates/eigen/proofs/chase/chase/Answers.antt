@@ -41,10 +41,10 @@ returns-after-chase g c =
     ∙ c.chase.invariant.whole in
     record { values = ap (λ l. l.values) whole; offs = ap (λ l. l.offs) whole; same = c.chase.invariant.same; rows = ap (λ l. l.kept) whole }
 
-pub returns-in-None : goal.returns-in-None
-returns-in-None g c =
+pub returns-in_default : goal.returns-in_default
+returns-in_default g c =
     let left = chase_left g.T.Real.Arithmetic.ops g.T.Real.RealScalar.real c.args.block.start c.args.block.end _ c.chase.i
-    c.chase.bulge c.chase.form.values.now c.chase.form.offs.now c.in-None.ensures.rotation in
+    c.chase.bulge c.chase.form.values.now c.chase.form.offs.now (sym c.in_default.is ∙ c.cancel_y.ensures.rotation) in
     let whole = sym (chase_done g.T.Arithmetic.ops c.chase.form.values.now c.chase.form.offs.now (g.K.Keeper.kept c.chase.keeper) _ left)
     ∙ c.chase.invariant.whole in
     record { values = ap (λ l. l.values) whole; offs = ap (λ l. l.offs) whole; same = c.chase.invariant.same; rows = ap (λ l. l.kept) whole }

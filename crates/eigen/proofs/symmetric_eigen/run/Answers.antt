@@ -1,12 +1,13 @@
-use Rattle.std.proofs.Common.{◌≡◌, ◌≤◌, length, None, Some, Err, sym, refl, ap, ◌∙◌, arith, rules}
+use Rattle.std.proofs.Common.{◌≡◌, ◌<◌, ◌≤◌, length, None, Some, Err, sym, refl, ap, ◌∙◌, arith, rules}
 use Rattle.std.proofs.lemmas.Result.{err_from_is_err_and}
 use Rattle.std.specs.Option.{ok_or}
 use Rattle.std.specs.Result.{result_ok}
 use Rattle.fault.specs.declared.Fault.TheVariants.{Pair}
 use Rattle.rows.specs.Keepers.{answered}
 use Rattle.eigen.specs.Iterate.{settled, not_settled, no_pair}
+use Rattle.eigen.specs.Blocks.{block_in}
 use Rattle.eigen.specs.Passes.{pass_end}
-use Rattle.eigen.proofs.Running.{ended_of, ends_over, ends_single, ends_broken, ends_passed, run_begins, run_ends, pass_falls}
+use Rattle.eigen.proofs.Running.{ended_of, ends_from, ends_over, ends_single, ends_broken, ends_passed, run_begins, run_ends, pass_falls}
 use Rattle.eigen.proofs.symmetric_eigen.run.Goals as goal
 
 pub passes-init : goal.passes-init
@@ -16,7 +17,7 @@ passes-init g c =
     record {
       whole = run_begins g.T.Arithmetic.ops g.T.Real.Arithmetic.ops g.T.Real.RealScalar.real c.args.tolerance c.args.limit
           (length form.values.now) (length form.offs.now) form.values.now first.new.self.values.now form.offs.now
-          first.new.self.offs.now first.result (g.K.Keeper.kept c.args.keeper.now) (omega (arith, form.lengths))
+          first.new.self.offs.now (block_in first.result) (g.K.Keeper.kept c.args.keeper.now) (omega (arith, form.lengths))
           first.ensures.values first.ensures.offs first.ensures.block;
       width = refl;
       ordered = first.ensures.ordered;
@@ -24,8 +25,8 @@ passes-init g c =
       same = first.ensures.same;
     }
 
-pub returns-then-block : goal.returns-then-block
-returns-then-block g c =
+pub returns-in_default : goal.returns-in_default
+returns-in_default g c =
     let o = g.T.Arithmetic.ops in
     let p = g.T.Real.Arithmetic.ops in
     let q = g.T.Real.RealScalar.real in
@@ -33,8 +34,9 @@ returns-then-block g c =
     let end = run_ends o p q c.args.tolerance c.args.limit (length form.values.now) c.args.largest form.values.now form.offs.now
     (g.K.Keeper.kept c.args.keeper.now)
     (ended_of (settled c.passes.count) c.passes.form.values.now c.passes.form.offs.now (g.K.Keeper.kept c.passes.keeper))
-    (sym (ends_single o p q c.args.tolerance c.args.limit c.passes.count c.passes.form.values.now c.passes.form.offs.now c.passes.block
-    (g.K.Keeper.kept c.passes.keeper) c.passes-test.true c.if-block.true) ∙ c.passes.invariant.whole) in
+    (sym (ends_single o p q c.args.tolerance c.args.limit c.passes.count c.passes.form.values.now c.passes.form.offs.now
+    (block_in c.passes.block) (g.K.Keeper.kept c.passes.keeper) c.passes-test.true
+    (ap (λ b. (block_in b).start) c.in_default.is ∙ sym (ap (λ b. (block_in b).end) c.in_default.is))) ∙ c.passes.invariant.whole) in
     record { answer = end.0; values = c.scale_values.ensures.values ∙ end.1; offs = end.2; same = search rules; rows = end.3 }
 
 pub returns-in_err-end : goal.returns-in_err-end
@@ -43,14 +45,18 @@ returns-in_err-end g c =
     let p = g.T.Real.Arithmetic.ops in
     let q = g.T.Real.RealScalar.real in
     let form = c.args.form.now in
+    let found = c.in-Some.found in
+    let ordered : found.start < found.end = c.passes.invariant.ordered found c.in-Some.is in
+    let whole = ap (λ b. ends_from o p q c.args.tolerance c.args.limit c.passes.count c.passes.form.values.now c.passes.form.offs.now
+    (block_in b) (g.K.Keeper.kept c.passes.keeper)) (sym c.in-Some.is) ∙ c.passes.invariant.whole in
     let none : c.pass.result ≡ None = c.ok_or.ensures.ok_part ∙ ap result_ok c.in_err-end.was in
     let end = run_ends o p q c.args.tolerance c.args.limit (length form.values.now) c.args.largest form.values.now form.offs.now
     (g.K.Keeper.kept c.args.keeper.now)
     (ended_of (no_pair c.passes.count) c.pass.new.form.values.now c.pass.new.form.offs.now (g.K.Keeper.kept c.pass.new.keeper))
     (sym (ends_broken o p q c.args.tolerance c.args.limit c.passes.count c.passes.form.values.now c.pass.new.form.values.now
-    c.passes.form.offs.now c.pass.new.form.offs.now c.passes.block (g.K.Keeper.kept c.passes.keeper)
-    (g.K.Keeper.kept c.pass.new.keeper) c.passes-test.true c.if-block.false (sym none ∙ c.pass.ensures.end)
-    c.pass.ensures.values c.pass.ensures.offs c.pass.ensures.rows) ∙ c.passes.invariant.whole) in
+    c.passes.form.offs.now c.pass.new.form.offs.now found (g.K.Keeper.kept c.passes.keeper)
+    (g.K.Keeper.kept c.pass.new.keeper) c.passes-test.true (λ e. omega (arith, e, ordered)) (sym none ∙ c.pass.ensures.end)
+    c.pass.ensures.values c.pass.ensures.offs c.pass.ensures.rows) ∙ whole) in
     let back = err_from_is_err_and c.from_residual.result c.from_residual.ensures.1 in
     record {
       answer = ap answered (back.1 ∙ ap Err back.2 ∙ sym c.in_err-end.was ∙ c.ok_or.ensures.value
@@ -66,22 +72,27 @@ passes-preserved g c =
     let o = g.T.Arithmetic.ops in
     let p = g.T.Real.Arithmetic.ops in
     let q = g.T.Real.RealScalar.real in
-    let some : Some c.in_ok-end.end ≡ pass_end p q c.args.tolerance c.passes.block.start c.passes.block.end
+    let found = c.in-Some.found in
+    let ordered : found.start < found.end = c.passes.invariant.ordered found c.in-Some.is in
+    let whole = ap (λ b. ends_from o p q c.args.tolerance c.args.limit c.passes.count c.passes.form.values.now c.passes.form.offs.now
+    (block_in b) (g.K.Keeper.kept c.passes.keeper)) (sym c.in-Some.is) ∙ c.passes.invariant.whole in
+    let some : Some c.in_ok-end.end ≡ pass_end p q c.args.tolerance found.start found.end
     c.passes.form.values.now c.passes.form.offs.now =
     sym (c.ok_or.ensures.ok_part ∙ ap result_ok c.in_ok-end.was) ∙ c.pass.ensures.end in
     let next = c.delimit_subproblem-block-in-passes in
-    let falls : c.in_ok-end.end ≤ c.passes.block.end = pass_falls p q c.args.tolerance c.passes.block.start c.passes.block.end
+    let ends = ap (λ b. (block_in b).end) c.in-Some.is in
+    let falls : c.in_ok-end.end ≤ found.end = pass_falls p q c.args.tolerance found.start found.end
     c.in_ok-end.end c.passes.form.values.now c.passes.form.offs.now some in
     record {
       whole = ends_passed o p q c.args.tolerance c.args.limit c.passes.count c.in_ok-end.end c.passes.form.values.now
           c.pass.new.form.values.now next.new.self.values.now c.passes.form.offs.now c.pass.new.form.offs.now
-          next.new.self.offs.now c.passes.block next.result (g.K.Keeper.kept c.passes.keeper)
-          (g.K.Keeper.kept c.pass.new.keeper) c.passes-test.true c.if-block.false some
+          next.new.self.offs.now found (block_in next.result) (g.K.Keeper.kept c.passes.keeper)
+          (g.K.Keeper.kept c.pass.new.keeper) c.passes-test.true (λ e. omega (arith, e, ordered)) some
           c.pass.ensures.values c.pass.ensures.offs c.pass.ensures.rows next.ensures.values next.ensures.offs next.ensures.block
-          ∙ c.passes.invariant.whole;
+          ∙ whole;
       width = ap (λ k. k.width) c.pass.ensures.rows ∙ c.passes.invariant.width;
       ordered = next.ensures.ordered;
-      inside = omega (arith, c.passes.invariant.inside, next.ensures.below, next.ensures.same.length, c.pass.ensures.same.length);
+      inside = omega (arith, ends, falls, c.passes.invariant.inside, next.ensures.below, next.ensures.same.length, c.pass.ensures.same.length);
       same = search rules;
     }
 
@@ -94,6 +105,6 @@ returns g c =
     let end = run_ends o p q c.args.tolerance c.args.limit (length form.values.now) c.args.largest form.values.now form.offs.now
     (g.K.Keeper.kept c.args.keeper.now)
     (ended_of (not_settled c.args.limit) c.passes.form.values.now c.passes.form.offs.now (g.K.Keeper.kept c.passes.keeper))
-    (sym (ends_over o p q c.args.tolerance c.args.limit c.passes.count c.passes.form.values.now c.passes.form.offs.now c.passes.block
+    (sym (ends_over o p q c.args.tolerance c.args.limit c.passes.count c.passes.form.values.now c.passes.form.offs.now (block_in c.passes.block)
     (g.K.Keeper.kept c.passes.keeper) c.passes.auto.count-end c.passes-test.false) ∙ c.passes.invariant.whole) in
     record { answer = end.0; values = end.1; offs = end.2; same = search rules; rows = end.3 }

@@ -1,4 +1,5 @@
-use Rattle.std.proofs.Common.{◌≡◌, ◌-◌, ◌≤◌, length}
+use Rattle.std.proofs.Common.{◌≡◌, ◌-◌, ◌<◌, ◌≤◌, Some, length}
+use Rattle.eigen.specs.Blocks.{block_in}
 use Rattle.eigen.specs.Forms.{SameBuffers}
 use Rattle.eigen.specs.Iterate.{iterate}
 use Rattle.eigen.specs.Runs.{searched, pass_of}
@@ -9,12 +10,12 @@ abbrev pub invariant-passes : goal.invariant-passes
 invariant-passes g l = record {
   -- what is left of the run gives the whole
   whole : ends_from g.T.Arithmetic.ops g.T.Real.Arithmetic.ops g.T.Real.RealScalar.real l.tolerance l.limit
-      l.count l.form.values.now l.form.offs.now l.block (g.K.Keeper.kept l.keeper)
+      l.count l.form.values.now l.form.offs.now (block_in l.block) (g.K.Keeper.kept l.keeper)
       ≡ ended_by g.T.Arithmetic.ops (iterate (pass_of g.T.Real.Arithmetic.ops g.T.Real.RealScalar.real l.tolerance) l.limit 0
       (searched g.T.Real.Arithmetic.ops g.T.Real.RealScalar.real l.tolerance l.fn.form.values.now l.fn.form.offs.now
       (length l.fn.form.values.now - 1))) (g.K.Keeper.kept l.fn.keeper);
   width : (g.K.Keeper.kept l.keeper).width ≡ (g.K.Keeper.kept l.fn.keeper).width;
-  ordered : l.block.start ≤ l.block.end;
-  inside : l.block.end ≤ length l.form.offs.now;
+  ordered : (b : _) → l.block ≡ Some b → b.start < b.end;
+  inside : (block_in l.block).end ≤ length l.form.offs.now;
   same : SameBuffers l.fn.form l.form;
 }
