@@ -3,7 +3,6 @@ use Rattle.std.specs.Prelude.{ℕ, List, [], ◌∷◌, ◌++◌, Some, None, Op
 use Rattle.std.specs.List.{flat_map}
 use Rattle.sheet.specs.declared.text.Heading.{Heading}
 use Rattle.sheet.specs.Faults.{Why, numbered}
-use Rattle.sheet.specs.Kinds.{kind_number}
 use Rattle.sheet.specs.Listings.{Listed}
 use Rattle.sheet.specs.Sheets.{Stop}
 use Rattle.sheet.specs.Text.{heading_text, refusal_text}
@@ -12,7 +11,7 @@ abbrev pub line : List ℕ → List ℕ
 line text = text ++ (10 ∷ [])
 
 abbrev pub heading_line : Heading → List ℕ
-heading_line h = line (heading_text (kind_number h.kind) h.side h.largest)
+heading_line h = line (heading_text h.kind h.side h.largest)
 
 -- Want of memory has no number, and no line.
 abbrev pub number_line : Option ℕ → ℕ → List ℕ

@@ -2,8 +2,6 @@
 use Rattle.std.specs.Prelude.{ℕ, cond, List, [], map, length, Some, None, vec_items, Option, nat_lt, to_bits}
 use Rattle.std.specs.Float.{binary64}
 use Rattle.fault.specs.Refusals.{refused}
-use Rattle.sheet.specs.declared.kind.Kind.{Kind}
-use Rattle.sheet.specs.declared.kind.Kind.TheVariants.{Real, Outline}
 use Rattle.sheet.specs.declared.sheet_fault.Refusal.{Refusal}
 use Rattle.sheet.specs.declared.listing.Listing.{Listing}
 use Rattle.sheet.specs.declared.text.Heading.{Heading}
@@ -12,12 +10,12 @@ use Rattle.sheet.specs.Desk.{Table, real_table, outline_table}
 use Rattle.sheet.specs.Sheets.{Run, Stop, stop, run}
 
 -- The kind, the side and the bits of the largest size.
-abbrev pub heading : Kind → ℕ → ℕ → Heading
+abbrev pub heading : ℕ → ℕ → ℕ → Heading
 heading kind side largest = record { kind = kind; side = side; largest = largest }
 
 abbrev pub heading_of : Table → Heading
-heading_of (real_table asked j) = heading Real j.side (to_bits binary64 j.largest)
-heading_of (outline_table asked j) = heading Outline j.side (to_bits binary64 j.largest)
+heading_of (real_table asked j) = heading 0 j.side (to_bits binary64 j.largest)
+heading_of (outline_table asked j) = heading 1 j.side (to_bits binary64 j.largest)
 
 pub record Listed : Type 0 where
   pub headings : List Heading

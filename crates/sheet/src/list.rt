@@ -23,7 +23,7 @@ impl Closed {
         ensures heading { result ≡ heading_of (table_of self.now) }
     {
         Heading {
-            kind: self.table.kind(),
+            kind: self.table.kind().into(),
             side: self.table.side(),
             largest: f64_to_bits_with_nan(self.table.largest()),
         }

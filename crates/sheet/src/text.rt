@@ -1,16 +1,15 @@
 // The lines of a listing.
-ghost use Rattle.std.specs.Prelude.{◌≡◌, decimal, IfOk, Some, string_bytes};
-ghost use Rattle.sheet.specs.Kinds.{kind_number};
+ghost use Rattle.std.specs.Prelude.{◌≡◌, IfOk, Some, string_bytes};
 ghost use Rattle.sheet.specs.Text.{hex_digits, heading_text, refusal_text};
 
-use crate::kind::Kind;
 use std::alloc::{AllocError, Global};
 use std::fmt;
 
-// What a listing tells of a closed table before its values: `largest` is the bits of its largest size.
+// What a listing tells of a closed table before its values: `largest` is the bits of its largest size. The kind's number and
+// no `Kind`, since `heading_line` is public and takes any number.
 #[derive(Clone, Copy, PartialEq, Eq, Debug)]
 pub struct Heading {
-    pub kind: Kind,
+    pub kind: u8,
     pub side: usize,
     pub largest: u64,
 }
@@ -22,17 +21,8 @@ pub(crate) struct Refused {
     pub(crate) place: usize,
 }
 
-impl fmt::Display for Kind {
-    ghost output = { λ kind. Some (decimal (kind_number kind)) };
-
-    fn fmt<W: fmt::Write>(&self, f: &mut fmt::Formatter<W>) -> fmt::Result {
-        let number = u8::from(*self);
-        write!(f, "{number}")
-    }
-}
-
 impl fmt::Display for Heading {
-    ghost output = { λ h. Some (heading_text (kind_number h.kind) h.side h.largest) };
+    ghost output = { λ h. Some (heading_text h.kind h.side h.largest) };
 
     #[tactic(auto, using(crate::proofs::Hexadecimal::sixteen))]
     fn fmt<W: fmt::Write>(&self, f: &mut fmt::Formatter<W>) -> fmt::Result {
@@ -63,7 +53,7 @@ pub fn hex16(heap: Global, bits: u64) -> Result<String, AllocError>
 }
 
 pub fn heading_line(heap: Global, heading: Heading) -> Result<String, AllocError>
-    ensures text { IfOk result (λ s. string_bytes s ≡ heading_text (kind_number heading.kind) heading.side heading.largest) }
+    ensures text { IfOk result (λ s. string_bytes s ≡ heading_text heading.kind heading.side heading.largest) }
 {
     heading.to_string(heap)
 }
