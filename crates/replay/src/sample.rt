@@ -30,6 +30,7 @@ pub(crate) trait Sample: Scalar<Real: RealSample> + Feed {
         Self::from_real(Self::Real::unit(random))
     }
 
+    // Any other number, which a real kind draws as one of the diagonal.
     fn draw(random: &mut Random) -> Self {
         Self::draw_real(random)
     }
