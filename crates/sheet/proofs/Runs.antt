@@ -1,13 +1,12 @@
 -- A whole sheet is its first table and then what is left.
-use Rattle.std.proofs.Common.{◌≡◌, ℕ, zero, suc, ◌+◌, ◌-◌, ◌<◌, ◌≤◌, Bool, true, List, [], ◌∷◌, ◌++◌, length, drop, Some, None, sym, refl, ap, ◌∙◌, ⊎_elim, append_assoc, add-zero, arith}
-use Rattle.std.proofs.lemmas.List.{append-nil, drop_all}
+use Rattle.std.proofs.Common.{◌≡◌, ℕ, zero, suc, ◌+◌, ◌-◌, ◌<◌, ◌≤◌, Bool, true, List, [], ◌∷◌, ◌++◌, length, drop, sym, refl, ap, ◌∙◌, ⊎_elim, append_assoc, add-zero, arith}
+use Rattle.std.proofs.lemmas.List.{drop_all}
 use Rattle.std.proofs.lemmas.Bool.{cases_lt}
 use Rattle.sheet.specs.declared.text.Heading.{Heading}
 use Rattle.sheet.specs.Commands.{Found, nothing, found, wrong, code_of, coded}
-use Rattle.sheet.specs.Faults.{Why}
-use Rattle.sheet.specs.Desk.{room_for, State, idle, Table, After, goes, closes, stops, applying}
+use Rattle.sheet.specs.Desk.{State, idle, Table, After, goes, closes, stops, applying}
 use Rattle.sheet.specs.Listings.{Listed, headed, heading_of}
-use Rattle.sheet.specs.Sheets.{Reading, ended, closed, broken, turning, reading, table_from, Run, stop, following, running, run_from, run}
+use Rattle.sheet.specs.Sheets.{Reading, ended, closed, turning, reading, table_from, Run, following, running, run_from, run}
 use Rattle.sheet.specs.Laws.{from, going_on, OneByOne}
 use Rattle.sheet.proofs.TableSteps.{beyond, left_of}
 
@@ -98,15 +97,6 @@ list_start s hs e = record { whole = ap (λ x. before x (from s 0)) e }
 module _ (s : List ℕ) (hs : List Heading) (p : ℕ) (l : Lists s hs p) where
   found_next : (r : Reading) → r ≡ table_from true 0 p idle (drop p s) → before hs (going_on (from s) r) ≡ headed (run s)
   found_next r e = ap (λ x. before hs (going_on (from s) x)) e ∙ ap (before hs) (sym (table_first s p)) ∙ l.whole
-
-  pub list_ended : ended ≡ table_from true 0 p idle (drop p s) → record { headings = hs; refusal = None } ≡ headed (run s)
-  list_ended e = ap (λ x. record { headings = x; refusal = None }) (sym (append-nil hs)) ∙ found_next ended e
-
-  pub list_broken : (w : Why) (q : ℕ) → room_for w ≡ true → broken w q ≡ table_from (room_for w) 0 p idle (drop p s) →
-      record { headings = hs; refusal = Some (stop w q) } ≡ headed (run s)
-  list_broken w q room e =
-      ap (λ x. record { headings = x; refusal = Some (stop w q) }) (sym (append-nil hs)) ∙
-      found_next (broken w q) (e ∙ ap (λ b. table_from b 0 p idle (drop p s)) room)
 
   pub list_more : (t : Table) (after : ℕ) (hs' : List Heading) → closed t after ≡ table_from true 0 p idle (drop p s) →
       hs' ≡ hs ++ (heading_of t ∷ []) → Lists s hs' after

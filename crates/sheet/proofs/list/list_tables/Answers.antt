@@ -1,12 +1,7 @@
 use Rattle.std.proofs.Common.{vec_items}
 use Rattle.sheet.specs.Desk.{table_of}
-use Rattle.sheet.proofs.Runs.{fewer, list_ended, list_more}
+use Rattle.sheet.proofs.Runs.{fewer, list_more}
 use Rattle.sheet.proofs.list.list_tables.Goals as goal
-
-pub returns-in-Ok-None-clause-listing : goal.returns-in-Ok-None-clause-listing
-returns-in-Ok-None-clause-listing c =
-    list_ended c.args.sheet.now (vec_items c.tables.headings) c.tables.place c.tables.invariant
-    (rw c.in-Ok-None.field-0-is at c.in-Ok-None.ensures.reading)
 
 pub tables-smaller : goal.tables-smaller
 tables-smaller c =
