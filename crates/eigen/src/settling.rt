@@ -1,5 +1,5 @@
 // Settling: what is refused before a run, and the run.
-ghost use Rattle.std.specs.Prelude.{◌≡◌, ◌+◌, ◌&&◌, length, ◌==◌};
+ghost use Rattle.std.specs.Prelude.{◌≡◌, length};
 ghost use Rattle.rows.specs.Keepers.{answered, given};
 ghost use Rattle.eigen.specs.Forms.{SameBuffers};
 ghost use Rattle.eigen.specs.Settles.{allowed, unlawful, check_of};
