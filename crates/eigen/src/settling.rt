@@ -12,6 +12,7 @@ use rows::Keeper;
 use scalar::{Arithmetic, RealScalar, Scalar};
 use tridiagonal::Reduction;
 
+// A job tests its tolerance and its limit alike, each in its crate: for two lines a crate below both would be one more to read.
 fn is_unlawful<R: RealScalar>(tolerance: R) -> bool
     ensures answer { result ≡ unlawful R.ops R.real tolerance }
 {
