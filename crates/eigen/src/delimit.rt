@@ -30,7 +30,7 @@ fn fall_to<F: Fn(usize) -> bool>(from: usize, stops: F) -> usize
 }
 
 impl<R: RealScalar> Tridiagonal<'_, R> {
-    // What the off-diagonal entry m is held against.
+    // What the off-diagonal entry m is compared with.
     fn bound(&self, m: usize, tolerance: R) -> R
         requires { m < length self.now.offs.now }
         ensures bound { result ≡ bound R.ops R.real tolerance self.now.values.now m }

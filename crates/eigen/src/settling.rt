@@ -12,7 +12,7 @@ use rows::Keeper;
 use scalar::{Arithmetic, RealScalar, Scalar};
 use tridiagonal::Reduction;
 
-// A job tests its tolerance and its limit alike, each in its crate: for two lines a crate below both would be one more to read.
+// A job has the same two tests, and no function of both stands in `fault`: the contracts of each crate name its own definition.
 fn is_unlawful<R: RealScalar>(tolerance: R) -> bool
     ensures answer { result ≡ unlawful R.ops R.real tolerance }
 {
@@ -54,7 +54,7 @@ pub(crate) fn check<T: Scalar, K: Keeper<T>>(
     Ok(())
 }
 
-// A run that is not refused, and what it has in common with other runs. The keeper has no say in its answer nor in what it leaves of values
+// A run that is not refused, clause by clause as in `settle`. The keeper has no say in its answer nor in what it leaves of values
 // and off-diagonal entries, and the limit none but to cut it short.
 pub(crate) fn lawful_run<T: Scalar, K: Keeper<T>>(
     reduction: &Reduction<T::Real>,

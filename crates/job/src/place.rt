@@ -2,8 +2,8 @@
 ghost use Rattle.std.specs.Prelude.{◌≡◌, ◌*◌, ◌<◌, ◌≤◌, ◌&&◌, is_some, nat_lt, IfSome};
 ghost use Rattle.job.specs.Typed.{is_lower, place};
 
-// A row and a column inside a table of this side. The side's bound is asked for: of a type of sides each use here would take
-// the number out again.
+// A row and a column inside a table of this side.
+// The side's bound is asked for: each use here would take the number out of a type of sides again.
 #[derive(Clone, Copy)]
 pub(crate) struct Place {
     side: usize,

@@ -26,7 +26,7 @@ fn run<T: Sample>(rt: &HostRuntime, name: &str, case: Case) -> anyhow::Result<()
     Ok(())
 }
 
-// The tables of one side: one of each shape, but graded only where it is small.
+// The tables of one side: one of each shape, but a graded one only where the side is small.
 fn runs<T: Sample>(rt: &HostRuntime, name: &str, side: u16) -> anyhow::Result<()> {
     let shapes = [
         (Shape::Dense, 1),

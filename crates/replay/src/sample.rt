@@ -36,6 +36,7 @@ pub(crate) trait Sample: Scalar<Real: RealSample> + Feed {
     }
 }
 
+// Written for each format: bit patterns of two widths, and so other bytes to hash and other exponents.
 impl Feed for f64 {
     fn feed(self, hash: Hash) -> Hash {
         hash.bytes(&f64_to_bits_with_nan(self).to_le_bytes())

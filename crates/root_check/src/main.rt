@@ -1,4 +1,4 @@
-//! Compares the root with the library's, bit by bit: on a table of hard cases, and on a run of seeded words.
+// Compares the root with the library's, bit by bit: on a table of hard cases, and on a run of seeded words.
 #![tactic(auto)]
 
 mod table;
@@ -64,6 +64,7 @@ fn unlike_from<F: Compared>(words: u32, seed: u64) -> usize
 {
     let mut x = seed;
     let mut n = 0;
+    // By hand: nothing bounds the `sum` of a chain behind `take`, and the word is carried along.
     for _ in 0..words {
         n += unlike_around::<F>(x);
         x = shuffle(x);

@@ -1,5 +1,5 @@
-//! Patterns at which a root is easily wrong: zeros, the least and the largest numbers, powers of two and squares with their
-//! neighbours, infinities, NaNs and what is below zero.
+// Patterns at which a root is easily wrong: zeros, the least and the largest numbers, powers of two and squares with their
+// neighbours, infinities, NaNs and what is below zero.
 
 pub const DOUBLES: [u64; 180] = [
     0x0000_0000_0000_0000,

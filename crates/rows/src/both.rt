@@ -15,7 +15,7 @@ pub struct Both<A, B> {
     second: B,
 }
 
-// How many rows two keepers have together: each has at most 65,536.
+// How many rows two keepers have together: each has at most 65,536. Two references, here and below, as in `check`.
 fn together<T: Scalar, A: Keeper<T>, B: Keeper<T>>(first: &A, second: &B) -> usize
     ensures { result ≡ length (A.kept first.now).rows + length (B.kept second.now).rows }
 {

@@ -22,8 +22,8 @@ impl<R: Copy> Turn<R> {
     }
 }
 
-// The embedded sine, or its negative when the direction is back. No method: the compiler cannot infer T of one with
-// `T: Scalar<Real = R>`.
+// The embedded sine, or its negative when the direction is back.
+// No method: the compiler cannot infer T of one with `T: Scalar<Real = R>`.
 pub(crate) fn sine_of<T: Scalar>(turn: &Turn<T::Real>) -> T
     ensures { result ≡ sine T.ops turn.now.direction turn.now.s }
 {

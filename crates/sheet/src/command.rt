@@ -87,7 +87,8 @@ impl Code {
     }
 }
 
-// The command whose byte stands at `place`, if the sheet has not ended there.
+// The command whose byte stands at `place`, if the sheet has not ended there. Sheet and place stand apart, here and in
+// `next_table`: the one stays and the other moves.
 pub fn next_command(sheet: &[u8], place: usize) -> Result<Option<Next<'_>>, Refusal>
     ensures decoded { stepped result ≡ at place (decode (drop place sheet.now)) }
 {

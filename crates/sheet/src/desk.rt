@@ -36,6 +36,7 @@ pub struct Closed {
 }
 
 // What one command comes to: the desk after it, or the table that it closed and left no other open.
+// Not a ControlFlow<Closed, Desk>: the cases say what became of the table, and Break and Continue what a loop does.
 #[derive(Drop)]
 pub enum Applied {
     Goes(Desk),
@@ -49,6 +50,7 @@ pub struct Stopped {
     pub desk: Desk,
 }
 
+// A match in each: the jobs are of two types, and a closure that takes either would have to be generic.
 impl Table {
     pub(crate) fn kind(&self) -> Kind
         ensures value { result ≡ kind_of self.now }

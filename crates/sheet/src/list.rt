@@ -15,7 +15,7 @@ use fault::Fault;
 use std::alloc::Global;
 use std::num::f64_to_bits_with_nan;
 
-// The bytes that a sheet can have.
+// How many bytes a sheet can have.
 const LONGEST: usize = 32_768;
 
 impl Closed {
@@ -43,6 +43,7 @@ fn list_tables(heap: Global, sheet: &[u8]) -> Result<Listing, SheetFault>
     ensures memory { IsOkUnless result Memory }
 {
     let mut headings = Vec::new(heap);
+    // a place, and no iterator of tables: `next_table` reads on from any place, as its clause `one_by_one` says
     let mut place = 0;
     'tables: loop {
         match next_table(heap, sheet, place) {

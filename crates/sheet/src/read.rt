@@ -21,6 +21,7 @@ pub fn next_table(heap: Global, sheet: &[u8], place: usize) -> Result<Option<Rea
     ensures one_by_one { OneByOne sheet.now place }
 {
     let mut desk = Desk { table: None };
+    // a place, and no iterator of commands: `next_command` reads at any place, and a refusal tells it
     let mut at = place;
     'commands: while let Some(next) = next_command(sheet, at)? {
         // one match for all that a command comes to: `map_err` and `?` would leave a second one

@@ -5,8 +5,8 @@ ghost use Rattle.sheet.specs.Text.{hex_digits, heading_text, refusal_text};
 use std::alloc::{AllocError, Global};
 use std::fmt;
 
-// What a listing tells of a closed table before its values: `largest` is the bits of its largest size. The kind's number and
-// no `Kind`, since `heading_line` is public and takes any number.
+// What a listing tells of a closed table before its values: `largest` is the bits of its largest size.
+// The kind's number and no `Kind`, since `heading_line` is public and takes any number.
 #[derive(Clone, Copy, PartialEq, Eq, Debug)]
 pub struct Heading {
     pub kind: u8,

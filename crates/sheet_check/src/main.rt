@@ -7,7 +7,7 @@ use anyhow::anyhow;
 use sheet::list_sheet;
 use std::alloc::{AllocError, Global};
 
-// What a hexadecimal digit stands for, and 0 for anything else (`char::to_digit` takes small letters too).
+// What a hexadecimal digit stands for (`char::to_digit` takes small letters too); 0 for anything else, which the table has not.
 fn digit(b: u8) -> u8
     ensures small { result < 16 }
 {

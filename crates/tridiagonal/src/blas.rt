@@ -11,8 +11,8 @@ use crate::square::Square;
 use crate::sums::{Sums, plus_product};
 use scalar::{Arithmetic, RealScalar, Scalar};
 
-// The eight running sums over all whole chunks of eight entries. By index: a zip of two chunks_exact asks both for their end
-// at each chunk, and took a quarter longer.
+// The eight running sums over all whole chunks of eight entries.
+// By index: a zip of two chunks_exact asks both for their end at each chunk, and took a quarter longer.
 fn chunk_sums<T: Scalar>(x: &[T], y: &[T]) -> Sums<T>
     requires { length x.now ≡ length y.now }
     ensures { result ≡ running_sums T.ops (length x.now / 8) (no_sums T.ops) x.now y.now }
@@ -26,8 +26,8 @@ fn chunk_sums<T: Scalar>(x: &[T], y: &[T]) -> Sums<T>
 }
 
 // The dot product of the conjugate of x with y: eight running sums while eight entries are left, added up in
-// pairs, and then the entries that are left. x and y stand apart, here and below: a struct of two slices of one length
-// would be made for each call and taken apart in it.
+// pairs, and then the entries that are left.
+// x and y stand apart, here and in all that follow: a struct of two slices of one length would be taken apart in each call.
 pub(crate) fn dotc<T: Scalar>(x: &[T], y: &[T]) -> T
     requires { length x.now ≡ length y.now }
     ensures { result ≡ dotc_of T.ops x.now y.now }
@@ -41,8 +41,8 @@ pub(crate) fn dotc<T: Scalar>(x: &[T], y: &[T]) -> T
     sum
 }
 
-// y becomes (a·u)·1 for each entry u of x: axpy where y's factor is zero. x by index, here and in axcpy: after a loop over
-// y.iter_mut().zip(x) a proof knows the length of y and no entry.
+// y becomes (a·u)·1 for each entry u of x: axpy where y's factor is zero.
+// x by index, here and in axcpy: after a loop over y.iter_mut().zip(x) a proof knows the length of y alone (`returns`).
 pub(crate) fn axc<T: Scalar>(y: &mut [T], a: T, x: &[T])
     requires { length x.now ≡ length y.old }
     ensures { y.new ≡ axc_of T.ops a x.now }
@@ -104,8 +104,8 @@ pub(crate) fn normalise<T: Scalar>(x: &mut [T])
     unscale(x, norm);
 }
 
-// Column j of a table of n rows, from row r down. A column to be written is lent where it is written: a function that
-// lends the middle of a slice gets no generated proof of what becomes of the slice.
+// Column j of a table of n rows, from row r down.
+// Of columns that are read: of a function that lends the middle of a slice to be written, no proof of the slice is generated.
 pub(crate) fn column<T: Scalar>(table: &[T], n: usize, j: usize, r: usize) -> &[T]
     requires rows { r ≤ n }
     requires held { j * n + n ≤ length table.now }

@@ -14,7 +14,7 @@ fn first_not_finite<T: Scalar>(table: &[T]) -> Option<usize>
     table.iter().position(|x| !x.size().is_finite())
 }
 
-// The first entry whose size is not finite, by its row and column.
+// The first entry whose size is not finite, by its row and column. The side and the table stand apart, as in `reduce`.
 #[tactic(auto, using(crate::proofs::Entries::entry_checked))]
 fn check_entries<T: Scalar>(n: usize, table: &[T]) -> Result<(), Fault>
     requires { 0 < n }

@@ -60,6 +60,7 @@ fn assemble_q<T: Scalar>(n: usize, table: &[T], signs: &[T], q: &mut [T])
         (lower n 0 n table.now) signs.now }
 {
     identity(n, q);
+    // By index: each step lends what is left of q, and reads its axis from the table and its sign.
     for i in (0..n - 1).rev() {
         reflect_columns(
             &mut q[i * n..],

@@ -40,8 +40,8 @@ impl<T: Scalar> Square<'_, T> {
     }
 }
 
-// Updates the square from row and column k on, where the column reflects: apart, so that the test is proved alone. It takes a
-// slice: of a part that step lent to a square a proof would know the length alone afterwards (at `returns` of step).
+// Updates the square from row and column k on, where the column reflects: apart, so that the test is proved alone.
+// A slice and no square: of a part that step lends to a square a proof knows the length alone afterwards (at `returns` of step).
 fn update_where<T: Scalar>(reflects: bool, t: &mut [T], n: usize, k: usize, axis: &[T], p: &mut [T])
     requires some { k < n }
     requires held { length t.old ≡ (n - k) * n }
