@@ -16,12 +16,6 @@ abbrev pub fall_to : (ℕ → Bool) → ℕ → ℕ
 fall_to stop zero = zero
 fall_to stop (suc m) = cond (stop m) (suc m) (fall_to stop m)
 
--- the same by a test that answers: true below the number where the fall ends, and false from there on
-pub record Falls (stops : ℕ → Bool → Type 0) (from to : ℕ) : Type 0 where
-  pub below : to ≤ from
-  pub stopped : (m : ℕ) → to ≡ m + 1 → stops m true
-  pub passed : (m : ℕ) → to ≤ m → m < from → stops m false
-
 module _ {R : Type 0} (ops : Ops R R) where
   abbrev pub at : List R → ℕ → R
   at xs i = slice_index_or xs i ops.zero

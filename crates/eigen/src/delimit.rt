@@ -1,7 +1,7 @@
 // The search for the block of a tridiagonal form that the next pass works on.
 ghost use Rattle.std.specs.Prelude.{◌≡◌, ◌<◌, ◌≤◌, Some, length};
 ghost use Rattle.eigen.specs.Blocks.{bound, above, within, negligible, end_from, start_from, cut_at, block_from, offs_from};
-ghost use Rattle.eigen.specs.Blocks.{Falls, block_in};
+ghost use Rattle.eigen.specs.Blocks.{block_in};
 ghost use Rattle.eigen.specs.Forms.{SameBuffers};
 
 use crate::form::Tridiagonal;
@@ -13,20 +13,6 @@ use scalar::{Arithmetic, RealScalar};
 pub(crate) struct Block {
     pub(crate) start: usize,
     pub(crate) end: usize,
-}
-
-// Falls from `from` until `stops` holds of the number below, or to 0.
-// No `rev().find(..)`: the check does not find that it ends where the definition does (`returns-clause-scan` of `end_from`).
-fn fall_to<F: Fn(usize) -> bool>(from: usize, stops: F) -> usize
-    requires { (m : _) → m < from → F.pre stops m }
-    ensures { Falls (F.post stops) from result }
-{
-    for m in (0..from).rev() {
-        if stops(m) {
-            return m + 1;
-        }
-    }
-    0
 }
 
 impl<R: RealScalar> Tridiagonal<'_, R> {
@@ -69,7 +55,9 @@ impl<R: RealScalar> Tridiagonal<'_, R> {
             end_from R.ops R.real tolerance self.now.values.now self.now.offs.now end }
         ensures below { result ≤ end }
     {
-        fall_to(end, |m| self.is_above(m, tolerance))
+        (0..end)
+            .rfind(|m| self.is_above(*m, tolerance))
+            .map_or(0, |m| m + 1)
     }
 
     // Second scan: the start falls until the entry before it is negligible.
@@ -79,7 +67,9 @@ impl<R: RealScalar> Tridiagonal<'_, R> {
             start_from R.ops R.real tolerance self.now.values.now self.now.offs.now start }
         ensures below { result ≤ start }
     {
-        fall_to(start, |m| self.is_negligible(m, tolerance))
+        (0..start)
+            .rfind(|m| self.is_negligible(*m, tolerance))
+            .map_or(0, |m| m + 1)
     }
 
     // The entry before a block's start is set to zero.

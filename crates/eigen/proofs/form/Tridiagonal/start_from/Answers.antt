@@ -1,4 +1,5 @@
-use Rattle.std.proofs.Common.{rules}
+use Rattle.std.proofs.Common.{rules, ◌≡◌, ◌-◌, Some}
+use Rattle.std.proofs.iter.runs.Sources.{ranges}
 use Rattle.eigen.specs.Blocks.{negligible}
 use Rattle.eigen.proofs.Falls.{falls_to}
 use Rattle.eigen.proofs.form.Tridiagonal.start_from.Goals as goal
@@ -7,4 +8,10 @@ pub returns-clause-scan : goal.returns-clause-scan
 returns-clause-scan g c =
     falls_to
     (negligible g.R.Arithmetic.ops g.R.RealScalar.real c.args.tolerance c.args.self.now.values.now c.args.self.now.offs.now)
-    _ _ _ (λ m b k s. search rules) c.fall_to.ensures
+    _ _ (record {
+      below = search (rules, ranges);
+      stopped = λ m e. search (rules, ranges);
+      passed = λ m k l.
+          let at : c.rfind.ensures.runs.0.at (c.args.start - 1 - m) ≡ Some m = search (rules, ranges) in
+          search (rules, ranges);
+    })
