@@ -5,12 +5,11 @@ use Rattle.std.specs.Option.{is_some}
 use Rattle.scalar.specs.Ops.{Ops, RealOps}
 use Rattle.rows.specs.Turns.{Turn}
 use Rattle.rows.specs.Keepers.{Kept, Answer}
-use Rattle.eigen.specs.declared.delimit.Block.{Block}
 use Rattle.eigen.specs.declared.eigenvalues.Vector2.{Vector2}
 use Rattle.eigen.specs.Turnings.{Turning, unturned, kept_all}
 use Rattle.eigen.specs.Passes.{pass_left, pass_end, pair_at, pair_put, pair_exists, chase_end}
 use Rattle.eigen.specs.Chases.{chased}
-use Rattle.eigen.specs.Blocks.{block_from, offs_from, within}
+use Rattle.eigen.specs.Blocks.{Span, block_from, offs_from, within}
 use Rattle.eigen.specs.Iterate.{Step, single, broken, passed, Ran, ran_of, onward, settled, not_settled, no_pair, iterate}
 use Rattle.eigen.specs.Runs.{Standing, standing_of, searched, passed_to, pass_of, values_at, run_of}
 use Rattle.eigen.proofs.Turned.{turn_none, kept_then}
@@ -69,17 +68,17 @@ module _ {R : Type 0} (ops : Ops R R) (real : RealOps R) (tolerance : R) where
       go false true w e = let k : next ≡ end - 1 = cc in omega arith
       go false false w e = absurd (some_none _ (sym e))
 
-  pub search_same : (next : ℕ) (v v' o o' o'' : List R) (block : Block) → v' ≡ v → o' ≡ o → o'' ≡ offs_from ops real tolerance v' o' next →
+  pub search_same : (next : ℕ) (v v' o o' o'' : List R) (block : Span) → v' ≡ v → o' ≡ o → o'' ≡ offs_from ops real tolerance v' o' next →
       block ≡ block_from ops real tolerance v' o' next → standing_of v' o'' block ≡ searched ops real tolerance v o next
   search_same next v v' o o' o'' block p q u w = cc
 
 module _ {C R : Type 0} (ops : Ops C R) (rops : Ops R R) (real : RealOps R) (tolerance : R) (limit : ℕ) where
   -- what a run from here gives
-  abbrev pub ends_from : ℕ → List R → List R → Block → Kept C → Ended C R
+  abbrev pub ends_from : ℕ → List R → List R → Span → Kept C → Ended C R
   ends_from count values offs block k = ended_by ops (iterate (pass_of rops real tolerance) (limit - count) count
       (standing_of values offs block)) k
 
-  pub ends_over : (count : ℕ) (values offs : List R) (block : Block) (k : Kept C) → count ≤ limit → limit ≤ count →
+  pub ends_over : (count : ℕ) (values offs : List R) (block : Span) (k : Kept C) → count ≤ limit → limit ≤ count →
       ends_from count values offs block k ≡ ended_of (not_settled limit) values offs k
   ends_over count values offs block k least h =
       let e : count ≡ limit = omega arith in
@@ -88,7 +87,7 @@ module _ {C R : Type 0} (ops : Ops C R) (rops : Ops R R) (real : RealOps R) (tol
       ∙ ap (ended_of (not_settled count) values offs) (turn_none ops k)
       ∙ ap (λ (n : ℕ). ended_of (not_settled n) values offs k) e
 
-  pub ends_single : (count : ℕ) (values offs : List R) (block : Block) (k : Kept C) → count < limit → block.start ≡ block.end →
+  pub ends_single : (count : ℕ) (values offs : List R) (block : Span) (k : Kept C) → count < limit → block.start ≡ block.end →
       ends_from count values offs block k ≡ ended_of (settled count) values offs k
   ends_single count values offs block k h e =
       let s = standing_of values offs block in
@@ -99,7 +98,7 @@ module _ {C R : Type 0} (ops : Ops C R) (rops : Ops R R) (real : RealOps R) (tol
       ap (λ (r : Ran (Standing R) (Turn R)). ended_by ops r k) (iterate_step (pass_of rops real tolerance) limit count s single h is)
       ∙ ap (ended_of (settled count) values offs) (turn_none ops k)
 
-  passes : (values offs : List R) (block : Block) → (block.start ≡ block.end → ⊥) →
+  passes : (values offs : List R) (block : Span) → (block.start ≡ block.end → ⊥) →
       pass_of rops real tolerance (standing_of values offs block)
       ≡ passed_to rops real tolerance (pass_end rops real tolerance block.start block.end values offs)
       (pass_left rops real tolerance block.start block.end values offs)
@@ -108,7 +107,7 @@ module _ {C R : Type 0} (ops : Ops C R) (rops : Ops R R) (real : RealOps R) (tol
       (pass_left rops real tolerance block.start block.end values offs))) (ne_eqb block.start block.end ne)
 
   -- where a pass breaks off, the run ends as it stood before it
-  pub ends_broken : (count : ℕ) (values values' offs offs' : List R) (block : Block) (k k' : Kept C) → count < limit →
+  pub ends_broken : (count : ℕ) (values values' offs offs' : List R) (block : Span) (k k' : Kept C) → count < limit →
       (block.start ≡ block.end → ⊥) → None ≡ pass_end rops real tolerance block.start block.end values offs →
       values' ≡ (pass_left rops real tolerance block.start block.end values offs).values →
       offs' ≡ (pass_left rops real tolerance block.start block.end values offs).offs →
@@ -128,7 +127,7 @@ module _ {C R : Type 0} (ops : Ops C R) (rops : Ops R R) (real : RealOps R) (tol
       ended_same a v v' o o' k k' p q t = cc
 
   -- a pass and the search after it leave a run that gives the whole
-  pub ends_passed : (count next : ℕ) (values values' values'' offs offs' offs'' : List R) (block block' : Block) (k k' : Kept C) → count < limit →
+  pub ends_passed : (count next : ℕ) (values values' values'' offs offs' offs'' : List R) (block block' : Span) (k k' : Kept C) → count < limit →
       (block.start ≡ block.end → ⊥) → Some next ≡ pass_end rops real tolerance block.start block.end values offs →
       values' ≡ (pass_left rops real tolerance block.start block.end values offs).values →
       offs' ≡ (pass_left rops real tolerance block.start block.end values offs).offs →
@@ -152,7 +151,7 @@ module _ {C R : Type 0} (ops : Ops C R) (rops : Ops R R) (real : RealOps R) (tol
       (iterate_step (pass_of rops real tolerance) limit count s (passed (standing_of values' offs'' block') left.turns) h is))
 
   -- a run that begins with a search at the last off-diagonal entry
-  pub run_begins : (side end : ℕ) (values values₁ offs offs₁ : List R) (block : Block) (k : Kept C) →
+  pub run_begins : (side end : ℕ) (values values₁ offs offs₁ : List R) (block : Span) (k : Kept C) →
       end ≡ side - 1 → values₁ ≡ values → offs₁ ≡ offs_from rops real tolerance values offs end →
       block ≡ block_from rops real tolerance values offs end →
       ends_from 0 values₁ offs₁ block k

@@ -1,15 +1,20 @@
 -- The search for the block of a tridiagonal form that a pass works on. Definitions only.
-use Rattle.std.specs.Prelude.{◌≡◌, ℕ, zero, suc, ◌+◌, ◌<◌, ◌≤◌, Bool, true, false, cond, ◌||◌, List, Some, None, Option, slice_index_or, slice_set}
+use Rattle.std.specs.Prelude.{ℕ, zero, suc, ◌+◌, Bool, cond, ◌||◌, List, Some, None, Option, slice_index_or, slice_set}
 use Rattle.scalar.specs.Ops.{Ops, RealOps}
-use Rattle.eigen.specs.declared.delimit.Block.{Block}
+use Rattle.eigen.specs.declared.block.Block.{Block}
 
-abbrev pub block_of : ℕ → ℕ → Block
-block_of start end = record { start = start; end = end }
+-- where a block starts and ends; at the end of a run both are the same
+pub record Span : Type 0 where
+  pub start : ℕ
+  pub end : ℕ
+
+abbrev pub span_of : ℕ → ℕ → Span
+span_of start end = record { start = start; end = end }
 
 -- a block found, or the single one at zero where none is
-abbrev pub block_in : Option Block → Block
-block_in None = block_of zero zero
-block_in (Some block) = block
+abbrev pub block_in : Option Block → Span
+block_in None = span_of zero zero
+block_in (Some block) = span_of block.start block.end
 
 -- the first number at or below n whose predecessor stops the fall, or zero
 abbrev pub fall_to : (ℕ → Bool) → ℕ → ℕ
@@ -51,12 +56,12 @@ module _ {R : Type 0} (ops : Ops R R) where
 
 module _ {R : Type 0} (ops : Ops R R) (real : RealOps R) (tolerance : R) where
   -- the block that ends at `end`: single at 0, else from the second scan's start
-  abbrev pub block_at : List R → List R → ℕ → Block
-  block_at values offs zero = block_of zero zero
-  block_at values offs (suc m) = block_of (start_from ops real tolerance values offs m) (suc m)
+  abbrev pub block_at : List R → List R → ℕ → Span
+  block_at values offs zero = span_of zero zero
+  block_at values offs (suc m) = span_of (start_from ops real tolerance values offs m) (suc m)
 
   -- the block found below `end`, and the off-diagonal entries after the search
-  abbrev pub block_from : List R → List R → ℕ → Block
+  abbrev pub block_from : List R → List R → ℕ → Span
   block_from values offs end = block_at values offs (end_from ops real tolerance values offs end)
 
   abbrev pub offs_from : List R → List R → ℕ → List R

@@ -3,8 +3,7 @@ use Rattle.std.specs.Prelude.{ℕ, ◌-◌, cond, List, map, Some, None, Option,
 use Rattle.scalar.specs.Ops.{Ops, RealOps}
 use Rattle.rows.specs.Turns.{Turn}
 use Rattle.rows.specs.Keepers.{Answer, given, denied}
-use Rattle.eigen.specs.declared.delimit.Block.{Block}
-use Rattle.eigen.specs.Blocks.{block_from, offs_from}
+use Rattle.eigen.specs.Blocks.{Span, block_from, offs_from}
 use Rattle.eigen.specs.Turnings.{Turning}
 use Rattle.eigen.specs.Passes.{pass_left, pass_end}
 use Rattle.eigen.specs.Iterate.{Step, single, broken, passed, Ran, iterate}
@@ -13,7 +12,7 @@ use Rattle.eigen.specs.Iterate.{Step, single, broken, passed, Ran, iterate}
 pub record Standing (R : Type 0) : Type 0 where
   pub values : List R
   pub offs : List R
-  pub block : Block
+  pub block : Span
 
 -- what a whole run gives
 pub record Run (R : Type 0) : Type 0 where
@@ -22,7 +21,7 @@ pub record Run (R : Type 0) : Type 0 where
   pub offs : List R
   pub turns : List (Turn R)
 
-abbrev pub standing_of : {R : Type 0} → List R → List R → Block → Standing R
+abbrev pub standing_of : {R : Type 0} → List R → List R → Span → Standing R
 standing_of values offs block = record { values = values; offs = offs; block = block }
 
 module _ {R : Type 0} (ops : Ops R R) (real : RealOps R) (tolerance : R) where

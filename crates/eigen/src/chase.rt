@@ -8,7 +8,7 @@ ghost use Rattle.eigen.specs.Forms.{SameBuffers};
 ghost use Rattle.eigen.specs.Chases.{rotated_corner, corner_at, corner_values, norm_put, bulge_offs, bulge_next};
 ghost use Rattle.eigen.specs.Chases.{step_values, step_offs, first_bulge, chased};
 
-use crate::delimit::Block;
+use crate::block::Block;
 use crate::eigenvalues::{Vector2, wilkinson_shift};
 use crate::form::Tridiagonal;
 use crate::givens::{Normed, Rotation, cancel_y};
@@ -129,8 +129,7 @@ impl<R: RealScalar> Tridiagonal<'_, R> {
     }
 
     fn first_bulge(&self, block: Block) -> Vector2<R>
-        requires start_lt_end { block.start < block.end }
-        requires end_in_bounds { block.end ≤ length self.now.offs.now }
+        requires { block.end ≤ length self.now.offs.now }
         ensures bulge { result ≡ first_bulge R.ops R.real block.start block.end
             self.now.values.now self.now.offs.now }
     {
@@ -158,7 +157,6 @@ pub(crate) fn chase<T: Scalar, K: Keeper<T>>(
     keeper: &mut K,
     block: Block,
 )
-    requires start_lt_end { block.start < block.end }
     requires end_in_bounds { block.end ≤ length form.old.offs.now }
     requires end_bound { block.end < (K.kept keeper.old).width }
     ensures values { form.new.values.now ≡ (chased T.Real.ops T.Real.real block.start block.end

@@ -4,16 +4,9 @@ ghost use Rattle.eigen.specs.Blocks.{bound, above, within, negligible, end_from,
 ghost use Rattle.eigen.specs.Blocks.{block_in};
 ghost use Rattle.eigen.specs.Forms.{SameBuffers};
 
+use crate::block::Block;
 use crate::form::Tridiagonal;
 use scalar::{Arithmetic, RealScalar};
-
-// That a block lies within its form is said in the contracts: it is a fact about the two.
-// Nor is start < end a field: the definitions of the search name what is left at the end as a block of start = end.
-#[derive(Clone, Copy)]
-pub(crate) struct Block {
-    pub(crate) start: usize,
-    pub(crate) end: usize,
-}
 
 impl<R: RealScalar> Tridiagonal<'_, R> {
     // What the off-diagonal entry m is compared with.
@@ -93,7 +86,6 @@ impl<R: RealScalar> Tridiagonal<'_, R> {
         ensures offs { self.new.offs.now ≡
             offs_from R.ops R.real tolerance self.old.values.now self.old.offs.now end }
         ensures same { SameBuffers self.old self.new }
-        ensures ordered { (b : _) → result ≡ Some b → b.start < b.end }
         ensures below { (block_in result).end ≤ end }
     {
         let last = self.end_from(end, tolerance);

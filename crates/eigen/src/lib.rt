@@ -1,6 +1,7 @@
 // The eigenvalues of a symmetric tridiagonal matrix, and the rows that are turned along.
 #![tactic(auto)]
 
+mod block;
 mod calls;
 mod chase;
 mod delimit;

@@ -5,8 +5,8 @@ ghost use Rattle.eigen.specs.Turnings.{kept_all};
 ghost use Rattle.eigen.specs.Forms.{SameBuffers};
 ghost use Rattle.eigen.specs.Passes.{basis_of, pair_at, basis_turns, pair_left, pair_exists, pass_left, pass_end};
 
+use crate::block::Block;
 use crate::chase::{Corner, chase};
-use crate::delimit::Block;
 use crate::eigenvalues::{Vector2, compute_2x2_eigvals};
 use crate::form::Tridiagonal;
 use crate::givens::try_new;
@@ -99,7 +99,6 @@ pub(crate) fn pass<T: Scalar, K: Keeper<T>>(
     block: Block,
     tolerance: T::Real,
 ) -> Option<usize>
-    requires start_lt_end { block.start < block.end }
     requires end_in_bounds { block.end ≤ length form.old.offs.now }
     requires end_bound { block.end < (K.kept keeper.old).width }
     ensures end { result ≡ pass_end T.Real.ops T.Real.real tolerance block.start block.end

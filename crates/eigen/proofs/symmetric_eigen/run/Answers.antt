@@ -1,4 +1,4 @@
-use Rattle.std.proofs.Common.{◌≡◌, ◌<◌, ◌≤◌, length, None, Some, Err, sym, refl, ap, ◌∙◌, arith, rules}
+use Rattle.std.proofs.Common.{◌≡◌, ◌≤◌, length, None, Some, Err, sym, refl, ap, ◌∙◌, arith, rules}
 use Rattle.std.proofs.lemmas.Result.{err_from_is_err_and}
 use Rattle.std.specs.Option.{ok_or}
 use Rattle.std.specs.Result.{result_ok}
@@ -20,7 +20,6 @@ passes-init g c =
           first.new.self.offs.now (block_in first.result) (g.K.Keeper.kept c.args.keeper.now) (omega (arith, form.lengths))
           first.ensures.values first.ensures.offs first.ensures.block;
       width = refl;
-      ordered = first.ensures.ordered;
       inside = omega (arith, first.ensures.below, first.ensures.same.length);
       same = first.ensures.same;
     }
@@ -46,7 +45,6 @@ returns-in_err-end g c =
     let q = g.T.Real.RealScalar.real in
     let form = c.args.form.now in
     let found = c.in-Some.found in
-    let ordered : found.start < found.end = c.passes.invariant.ordered found c.in-Some.is in
     let whole = ap (λ b. ends_from o p q c.args.tolerance c.args.limit c.passes.count c.passes.form.values.now c.passes.form.offs.now
     (block_in b) (g.K.Keeper.kept c.passes.keeper)) (sym c.in-Some.is) ∙ c.passes.invariant.whole in
     let none : c.pass.result ≡ None = c.ok_or.ensures.ok_part ∙ ap result_ok c.in_err-end.was in
@@ -54,8 +52,8 @@ returns-in_err-end g c =
     (g.K.Keeper.kept c.args.keeper.now)
     (ended_of (no_pair c.passes.count) c.pass.new.form.values.now c.pass.new.form.offs.now (g.K.Keeper.kept c.pass.new.keeper))
     (sym (ends_broken o p q c.args.tolerance c.args.limit c.passes.count c.passes.form.values.now c.pass.new.form.values.now
-    c.passes.form.offs.now c.pass.new.form.offs.now found (g.K.Keeper.kept c.passes.keeper)
-    (g.K.Keeper.kept c.pass.new.keeper) c.passes-test.true (λ e. omega (arith, e, ordered)) (sym none ∙ c.pass.ensures.end)
+    c.passes.form.offs.now c.pass.new.form.offs.now (block_in (Some found)) (g.K.Keeper.kept c.passes.keeper)
+    (g.K.Keeper.kept c.pass.new.keeper) c.passes-test.true (λ e. omega (arith, e, found.ordered)) (sym none ∙ c.pass.ensures.end)
     c.pass.ensures.values c.pass.ensures.offs c.pass.ensures.rows) ∙ whole) in
     let back = err_from_is_err_and c.from_residual.result c.from_residual.ensures.1 in
     record {
@@ -73,7 +71,6 @@ passes-preserved g c =
     let p = g.T.Real.Arithmetic.ops in
     let q = g.T.Real.RealScalar.real in
     let found = c.in-Some.found in
-    let ordered : found.start < found.end = c.passes.invariant.ordered found c.in-Some.is in
     let whole = ap (λ b. ends_from o p q c.args.tolerance c.args.limit c.passes.count c.passes.form.values.now c.passes.form.offs.now
     (block_in b) (g.K.Keeper.kept c.passes.keeper)) (sym c.in-Some.is) ∙ c.passes.invariant.whole in
     let some : Some c.in_ok-end.end ≡ pass_end p q c.args.tolerance found.start found.end
@@ -86,12 +83,11 @@ passes-preserved g c =
     record {
       whole = ends_passed o p q c.args.tolerance c.args.limit c.passes.count c.in_ok-end.end c.passes.form.values.now
           c.pass.new.form.values.now next.new.self.values.now c.passes.form.offs.now c.pass.new.form.offs.now
-          next.new.self.offs.now found (block_in next.result) (g.K.Keeper.kept c.passes.keeper)
-          (g.K.Keeper.kept c.pass.new.keeper) c.passes-test.true (λ e. omega (arith, e, ordered)) some
+          next.new.self.offs.now (block_in (Some found)) (block_in next.result) (g.K.Keeper.kept c.passes.keeper)
+          (g.K.Keeper.kept c.pass.new.keeper) c.passes-test.true (λ e. omega (arith, e, found.ordered)) some
           c.pass.ensures.values c.pass.ensures.offs c.pass.ensures.rows next.ensures.values next.ensures.offs next.ensures.block
           ∙ whole;
       width = ap (λ k. k.width) c.pass.ensures.rows ∙ c.passes.invariant.width;
-      ordered = next.ensures.ordered;
       inside = omega (arith, ends, falls, c.passes.invariant.inside, next.ensures.below, next.ensures.same.length, c.pass.ensures.same.length);
       same = search rules;
     }

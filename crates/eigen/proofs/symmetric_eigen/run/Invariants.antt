@@ -1,4 +1,4 @@
-use Rattle.std.proofs.Common.{◌≡◌, ◌-◌, ◌<◌, ◌≤◌, Some, length}
+use Rattle.std.proofs.Common.{◌≡◌, ◌-◌, ◌≤◌, length}
 use Rattle.eigen.specs.Blocks.{block_in}
 use Rattle.eigen.specs.Forms.{SameBuffers}
 use Rattle.eigen.specs.Iterate.{iterate}
@@ -15,7 +15,6 @@ invariant-passes g l = record {
       (searched g.T.Real.Arithmetic.ops g.T.Real.RealScalar.real l.tolerance l.fn.form.values.now l.fn.form.offs.now
       (length l.fn.form.values.now - 1))) (g.K.Keeper.kept l.fn.keeper);
   width : (g.K.Keeper.kept l.keeper).width ≡ (g.K.Keeper.kept l.fn.keeper).width;
-  ordered : (b : _) → l.block ≡ Some b → b.start < b.end;
   inside : (block_in l.block).end ≤ length l.form.offs.now;
   same : SameBuffers l.fn.form l.form;
 }
