@@ -6,9 +6,9 @@ ghost use Rattle.fault.specs.Refusals.{refusal};
 
 #[derive(Clone, Copy, PartialEq, Eq, Debug)]
 pub enum Fault {
-    // the side is 0 or above 512
+    // a side or a keeper's width is 0 or above 512, or a count of rows is above 512
     Side,
-    // a buffer has another length than the one stated
+    // a buffer has another length than the one stated, two keepers have too many rows together, or a sheet has too many bytes
     Length,
     // the size of the entry at this row and column is not finite: the first such in column order
     Entry { row: usize, column: usize },

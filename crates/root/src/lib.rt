@@ -13,7 +13,7 @@ ghost use Rattle.root.specs.Root.{IsRoot, root_bits, root_of};
 use bits::root_bits;
 pub use format::Binary;
 
-// The root, drawn on the pattern: apart from `root`, so that its equation is proved by itself, before what is said of other floats.
+// The root, drawn on the pattern of v. Apart from `root`: the equation is proved here, and there that no other float is the root.
 fn drawn<F: Binary>(v: F) -> F
     ensures value { F.datum result ≡ from_bits F.format (root_bits F.format (to_bits F.format (F.datum v))) }
     ensures fits { T (fits F.format (F.datum v)) }
