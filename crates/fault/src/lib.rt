@@ -1,8 +1,14 @@
 // The solver's refusals.
 #![tactic(auto)]
 
-ghost use Rattle.std.specs.Prelude.{◌≡◌};
+mod bounds;
+
+ghost use Rattle.std.specs.Prelude.{◌≡◌, Some};
 ghost use Rattle.fault.specs.Refusals.{refusal};
+ghost use Rattle.fault.specs.Text.{refusal_text};
+
+pub use bounds::{limit_fits, side_fits};
+use std::fmt;
 
 #[derive(Clone, Copy, PartialEq, Eq, Debug)]
 pub enum Fault {
@@ -42,5 +48,13 @@ impl Fault {
             Fault::Pair { .. } => 8,
             Fault::Column => 9,
         }
+    }
+}
+
+impl fmt::Display for Fault {
+    ghost output = { λ fault. Some (refusal_text (refusal fault)) };
+
+    fn fmt<W: fmt::Write>(&self, f: &mut fmt::Formatter<W>) -> fmt::Result {
+        write!(f, "refused {}", self.number())
     }
 }

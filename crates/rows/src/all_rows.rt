@@ -6,9 +6,8 @@ ghost use Rattle.rows.specs.Sounds.{all_rows_sound};
 
 use crate::columns::{entry, rotate};
 use crate::keeper::Keeper;
-use crate::no_rows::width_fits;
 use crate::turn::Turn;
-use fault::Fault;
+use fault::{Fault, side_fits};
 use scalar::{Arithmetic, Scalar};
 
 // The counts stand beside the slice: `new` is handed all three, and nothing here allocates.
@@ -24,7 +23,7 @@ impl<'a, T: Scalar> AllRows<'a, T> {
     pub fn check(width: usize, count: usize, length: usize) -> Result<(), Fault>
         ensures answer { answered result ≡ all_rows_check width count «length» }
     {
-        if !width_fits(width) || count > 512 {
+        if !side_fits(width) || count > 512 {
             return Err(Fault::Side);
         }
         if length != width * count {
@@ -33,7 +32,7 @@ impl<'a, T: Scalar> AllRows<'a, T> {
         Ok(())
     }
 
-    // Its signature is fixed and cannot refuse: where `check` does, the keeper has width 0 and no rows.
+    // Making refuses nothing, so that it says what is held of every input: where `check` refuses, the keeper has width 0 and no rows.
     pub fn new(width: usize, count: usize, cells: &'a mut [T]) -> AllRows<'a, T>
         ensures kept { all_rows T.ops.zero result.width result.count result.cells.now ≡
             all_rows T.ops.zero width count cells.old }

@@ -46,7 +46,7 @@ impl<A, B> Both<A, B> {
         Ok(())
     }
 
-    // Its signature is fixed and cannot refuse: where `check` does, the keeper has width 0 and no rows.
+    // Making refuses nothing, so that it says what is held of every input: where `check` refuses, the keeper has width 0 and no rows.
     pub fn new<T: Scalar>(first: A, second: B) -> Both<A, B>
     where
         A: Keeper<T>,

@@ -6,6 +6,7 @@ ghost use Rattle.rows.specs.Turns.{turned};
 use crate::turn::{Turn, sine_of};
 use scalar::{Arithmetic, Scalar};
 
+// Apart from `read`, where it stays open that the place fits in memory (`offset_bounds`).
 pub(crate) fn entry<T: Scalar>(cells: &[T], count: usize, row: usize, column: usize) -> T
     requires { row + column * count < length cells.now }
     ensures { result ≡ get_or cells.now (row + column * count) T.ops.zero }
@@ -27,6 +28,7 @@ fn turn_entries<T: Scalar>(cells: &mut [T], x: usize, y: usize, c: T::Real, t: T
 }
 
 // Turns two columns of every row: one pass over two columns side by side.
+// No method of the keeper: it would promise besides, of the width, the count and the slice lent, that they stay.
 #[tactic(auto, using(crate::proofs::Rotations::one_more, crate::proofs::Rotations::all_turned))]
 pub(crate) fn rotate<T: Scalar>(cells: &mut [T], width: usize, count: usize, turn: &Turn<T::Real>)
     requires fit { all_rows_fit width count (length cells.old) ≡ true }

@@ -1,12 +1,12 @@
 // A keeper of no rows: a run then finds the values alone.
 ghost use Rattle.std.specs.Prelude.{◌≡◌, []};
 ghost use Rattle.rows.specs.Keepers.{answered};
-ghost use Rattle.rows.specs.Makes.{no_rows_check, no_rows_width, width_fits};
+ghost use Rattle.rows.specs.Makes.{no_rows_check, no_rows_width};
 ghost use Rattle.rows.specs.Sounds.{no_rows_sound};
 
 use crate::keeper::Keeper;
 use crate::turn::Turn;
-use fault::Fault;
+use fault::{Fault, side_fits};
 use scalar::Scalar;
 
 #[derive(Clone, Copy)]
@@ -14,29 +14,22 @@ pub struct NoRows {
     width: usize,
 }
 
-// Whether a keeper may be made of this width.
-pub(crate) fn width_fits(width: usize) -> bool
-    ensures { result ≡ width_fits width }
-{
-    (1..=512).contains(&width)
-}
-
 impl NoRows {
     pub fn check(width: usize) -> Result<(), Fault>
         ensures answer { answered result ≡ no_rows_check width }
     {
-        if !width_fits(width) {
+        if !side_fits(width) {
             return Err(Fault::Side);
         }
         Ok(())
     }
 
-    // Its signature is fixed and cannot refuse: where `check` does, the keeper has width 0.
+    // Making refuses nothing, so that it says what is held of every input: where `check` refuses, the keeper has width 0.
     pub fn new(width: usize) -> NoRows
         ensures width { result.width ≡ no_rows_width width }
     {
         NoRows {
-            width: if width_fits(width) { width } else { 0 },
+            width: if side_fits(width) { width } else { 0 },
         }
     }
 }

@@ -23,7 +23,7 @@ impl<R: Copy> Turn<R> {
 }
 
 // The embedded sine, or its negative when the direction is back.
-// No method: the compiler cannot infer T of one with `T: Scalar<Real = R>`.
+// No method: one with `T: Scalar<Real = R>` is refused where it is declared (`cannot-infer-type`).
 pub(crate) fn sine_of<T: Scalar>(turn: &Turn<T::Real>) -> T
     ensures { result ≡ sine T.ops turn.now.direction turn.now.s }
 {
