@@ -39,12 +39,6 @@ fn reduced(q: &mut [f64]) -> Result<Form, Fault> {
     })
 }
 
-// A refusal, by its number.
-fn print_refusal(rt: &HostRuntime, fault: Fault) -> anyhow::Result<()> {
-    println!(rt; "refused {}", fault.number())?;
-    Ok(())
-}
-
 // By index: a keeper is read by row and column, and lends no rows to loop over.
 fn print_rows<K: Keeper<f64>>(rt: &HostRuntime, keeper: &K) -> anyhow::Result<()> {
     for row in 0..keeper.rows() {
@@ -74,7 +68,7 @@ fn settled<K: Keeper<f64>>(rt: &HostRuntime, form: Form, keeper: &mut K) -> anyh
         1000,
     ) {
         Ok(passes) => println!(rt; "passes {passes}")?,
-        Err(why) => print_refusal(rt, Fault::from(why))?,
+        Err(why) => println!(rt; "{}", Fault::from(why))?,
     }
     for x in values {
         println!(rt; "value {:016X}", f64_to_bits_with_nan(x))?;
@@ -102,9 +96,10 @@ fn run<F: FnOnce(&HostRuntime, Form, &mut [f64]) -> anyhow::Result<()>>(
 {
     let mut q = [0.0; 9];
     match reduced(&mut q) {
-        Ok(form) => go_on(rt, form, &mut q),
-        Err(fault) => print_refusal(rt, fault),
+        Ok(form) => go_on(rt, form, &mut q)?,
+        Err(fault) => println!(rt; "{fault}")?,
     }
+    Ok(())
 }
 
 fn main(rt: HostRuntime) -> anyhow::Result<()> {

@@ -5,7 +5,7 @@ ghost use Rattle.decomposition.specs.declared.failure.Failure.TheVariants.{Solve
 use fault::Fault;
 use std::alloc::{AllocError, AllocFailed};
 
-#[derive(Clone, Copy)]
+#[derive(Clone, Copy, PartialEq, Eq, Debug)]
 pub enum Failure {
     // a refusal of the solver, whole
     Solver(Fault),

@@ -5,7 +5,7 @@ ghost use Rattle.decomposition.specs.Forms.{Reduces};
 use crate::buffers::zeros;
 use crate::failure::Failure;
 use crate::form::Form;
-use fault::Fault;
+use fault::{Fault, side_fits};
 use scalar::{Arithmetic, RealScalar, Scalar};
 use std::alloc::Global;
 use tridiagonal::reduce;
@@ -20,7 +20,7 @@ pub(crate) fn reduced<T: Scalar>(
 ) -> Result<Form<T>, Failure>
     ensures form { Reduces (kind T.ops T.Real.ops T.Real.real) n table.items result }
 {
-    if !(1..=512).contains(&n) {
+    if !side_fits(n) {
         return Err(Fault::Side.into());
     }
     let mut values = zeros(heap, n)?;

@@ -5,11 +5,11 @@ ghost use Rattle.job.specs.Shown.{typed};
 ghost use Rattle.job.specs.Typed.{limiting, placed, putting, tolerating};
 ghost use Rattle.job.specs.declared.rejected.Rejected.TheVariants.{Twice};
 
-use crate::checks::{is_limit, is_tolerance};
+use crate::checks::is_tolerance;
 use crate::job::Job;
 use crate::place::Place;
 use crate::rejected::Rejected;
-use fault::Fault;
+use fault::{Fault, limit_fits};
 use scalar::{Arithmetic, RealScalar, Scalar};
 
 // What may be given once.
@@ -65,7 +65,7 @@ impl<T: Scalar> Job<T> {
     pub fn set_limit(&mut self, limit: u32) -> Result<(), Rejected>
         ensures outcome { (reported result, typed self.new) ≡ limiting (typed self.old) limit }
     {
-        if !is_limit(limit) {
+        if !limit_fits(limit) {
             return Err(Fault::Limit.into());
         }
         give(&mut self.limit, limit)

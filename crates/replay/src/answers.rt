@@ -108,22 +108,12 @@ impl fmt::Display for Answers {
         write!(f, "signs {:016X} q {:016X} ", self.signs, self.q)?;
         match self.passes {
             Ok(count) => write!(f, "passes {count} ")?,
-            Err(fault) => write!(f, "{} ", Refused(fault))?,
+            Err(fault) => write!(f, "{fault} ")?,
         }
         write!(
             f,
             "values {:016X} vectors {:016X}",
             self.values, self.vectors
         )
-    }
-}
-
-// A refusal, by its number.
-#[derive(Clone, Copy)]
-pub(crate) struct Refused(pub(crate) Fault);
-
-impl fmt::Display for Refused {
-    fn fmt<W: fmt::Write>(&self, f: &mut fmt::Formatter<W>) -> fmt::Result {
-        write!(f, "refused {}", self.0.number())
     }
 }

@@ -7,7 +7,7 @@ mod random;
 mod sample;
 mod table;
 
-use answers::{Buffers, Refused};
+use answers::Buffers;
 use sample::Sample;
 use scalar::Complex;
 use table::{Case, Shape};
@@ -21,7 +21,7 @@ fn run<T: Sample>(rt: &HostRuntime, name: &str, case: Case) -> anyhow::Result<()
     let buffers = Buffers::<T>::new(rt.alloc(), case)?;
     match buffers.answers() {
         Ok(answers) => println!(rt; "{name} side {side} seed {seed} {answers}")?,
-        Err(fault) => println!(rt; "{name} side {side} seed {seed} {}", Refused(fault))?,
+        Err(fault) => println!(rt; "{name} side {side} seed {seed} {fault}")?,
     }
     Ok(())
 }

@@ -12,7 +12,7 @@ fn digit(root: u64, tail: u64) -> u64
 }
 
 // The root of the digits drawn so far, root² + rest, and of two more for each digit that is left: they come from the window's top.
-// No loop: each digit is a call of the same step with one digit fewer, as the root is defined.
+// No loop: a rule of the project, each digit is a call of the same step with one digit fewer (docs/DECISIONS.md).
 fn draw(root: u64, rest: u64, window: u64, left: u64) -> u64
     requires { (rest ≤ 2 * root) × ((root + 1) * 2 ^ left ≤ 2 ^ 60) }
     ensures { Floor ((root * root + rest) * 4 ^ left + window * 4 ^ left / 2 ^ 64) result }

@@ -59,6 +59,7 @@ pub trait Binary: Copy {
     ghost rise_is: { RISE ≡ emax format - prec format - 1 };
 }
 
+// An impl for each format: these numbers and four calls are what the two differ in.
 impl Binary for f32 {
     const DIGITS: u64 = 24;
 

@@ -16,6 +16,7 @@ trait Compared: Binary {
         ensures { Self.datum result ≡ sqrt Self.format (Self.datum self) };
 }
 
+// An impl for each format: its `sqrt` belongs to the type and to no trait.
 impl Compared for f32 {
     fn library_root(self) -> f32 {
         self.sqrt()
