@@ -1,13 +1,7 @@
 -- What a reduction is refused for. Definitions only.
 use Rattle.std.specs.Prelude.{ℕ, suc, ◌-◌, ◌*◌, ◌/◌, ◌%◌, Bool, cond, ◌&&◌, ◌||◌, List, [], ◌∷◌, length, Some, None, Option, ◌==◌, nat_lt}
-use Rattle.fault.specs.declared.Fault.{Fault}
-use Rattle.fault.specs.Refusals.{Refusal, refusal, refused}
+use Rattle.fault.specs.Refusals.{Refusal, refused}
 use Rattle.tridiagonal.specs.Householder.{Kind}
-
--- a refusal, or none, by its number and values
-abbrev pub refusal_in : Option Fault → Option Refusal
-refusal_in None = None
-refusal_in (Some fault) = Some (refusal fault)
 
 -- the side is 0 or above 512
 abbrev pub side_refused : ℕ → Bool

@@ -104,16 +104,6 @@ pub(crate) fn normalise<T: Scalar>(x: &mut [T])
     unscale(x, norm);
 }
 
-// Column j of a table of n rows, from row r down.
-// Of columns that are read: of a function that lends the middle of a slice to be written, no proof of the slice is generated.
-pub(crate) fn column<T: Scalar>(table: &[T], n: usize, j: usize, r: usize) -> &[T]
-    requires rows { r ≤ n }
-    requires held { j * n + n ≤ length table.now }
-    ensures { result.now ≡ take (n - r) (drop (j * n + r) table.now) }
-{
-    &table[j * n + r..j * n + n]
-}
-
 // The first column of a Hermitian matrix-vector product: p is written and not read, where a further column adds to it.
 fn hegemv_first<T: Scalar>(alpha: T, column: &[T], x: &[T], p: &mut [T])
     requires some { 0 < length x.now }
@@ -139,13 +129,14 @@ fn hegemv_column<T: Scalar>(alpha: T, column: &[T], x: &[T], p: &mut [T])
 }
 
 impl<T: Scalar> Square<'_, T> {
-    // The lower part of the square's column j, from its diagonal entry down.
+    // The lower part of the square's column j, from its diagonal entry down, to be read: of a function that lends the
+    // middle of a slice to be written, no proof of the slice is generated.
     fn column(&self, j: usize) -> &[T]
         requires { j < self.now.n - self.now.k }
         ensures { result.now ≡ take (self.now.n - (self.now.k + j))
             (drop (j * self.now.n + (self.now.k + j)) self.now.cells.now) }
     {
-        column(self.cells, self.n, j, self.k + j)
+        &self.cells[j * self.n + (self.k + j)..j * self.n + self.n]
     }
 
     // p becomes alpha·(A·x), where A is the Hermitian square.

@@ -4,6 +4,7 @@ ghost use Rattle.tridiagonal.specs.Checks.{entry_refusal, refusal_for};
 ghost use Rattle.tridiagonal.specs.Householder.{kind};
 ghost use Rattle.tridiagonal.specs.Outcome.{refused_in};
 
+use crate::table::Table;
 use fault::Fault;
 use scalar::{Arithmetic, RealScalar, Scalar};
 
@@ -14,18 +15,19 @@ fn first_not_finite<T: Scalar>(table: &[T]) -> Option<usize>
     table.iter().position(|x| !x.size().is_finite())
 }
 
-// The first entry whose size is not finite, by its row and column. The side and the table stand apart, as in `reduce`.
-#[tactic(auto, using(crate::proofs::Entries::entry_checked))]
-fn check_entries<T: Scalar>(n: usize, table: &[T]) -> Result<(), Fault>
-    requires { 0 < n }
-    ensures { refused_in result ≡ entry_refusal (kind T.ops T.Real.ops T.Real.real) n 0 table.now }
-{
-    match first_not_finite(table) {
-        Some(k) => Err(Fault::Entry {
-            row: k % n,
-            column: k / n,
-        }),
-        None => Ok(()),
+impl<T: Scalar> Table<'_, T> {
+    // The first entry whose size is not finite, by its row and column.
+    #[tactic(auto, using(crate::proofs::Entries::entry_checked))]
+    fn check_entries(&self) -> Result<(), Fault>
+        ensures { refused_in result ≡ entry_refusal (kind T.ops T.Real.ops T.Real.real) self.now.n 0 self.now.entries.now }
+    {
+        match first_not_finite(self.entries) {
+            Some(k) => Err(Fault::Entry {
+                row: k % self.n,
+                column: k / self.n,
+            }),
+            None => Ok(()),
+        }
     }
 }
 
@@ -55,5 +57,5 @@ pub(crate) fn check<T: Scalar>(
     if lengths != [n * n, n, n - 1, n - 1, n - 1] {
         return Err(Fault::Length);
     }
-    check_entries(n, table)
+    Table { entries: table, n }.check_entries()
 }

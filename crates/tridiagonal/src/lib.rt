@@ -10,6 +10,7 @@ mod reflection;
 mod square;
 mod sums;
 mod symmetric_tridiagonal;
+mod table;
 
 pub use matrix_q::assemble;
 pub use reduction::Reduction;

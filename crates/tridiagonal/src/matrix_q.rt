@@ -1,13 +1,13 @@
 // The matrix Q of a reduction.
-ghost use Rattle.std.specs.Prelude.{◌≡◌, ◌+◌, ◌-◌, ◌*◌, ◌<◌, ◌≤◌, length, ◌==◌, if◌then◌else◌};
+ghost use Rattle.std.specs.Prelude.{◌≡◌, ◌+◌, ◌-◌, ◌*◌, ◌<◌, ◌≤◌, length, take, drop, ◌==◌, if◌then◌else◌};
 ghost use Rattle.tridiagonal.specs.Assemble.{assemble_refusal, identity_from, matrix_q, reflected_columns};
 ghost use Rattle.tridiagonal.specs.Householder.{kind};
 ghost use Rattle.tridiagonal.specs.Outcome.{refused_in, unless_refused};
 ghost use Rattle.tridiagonal.specs.Tables.{lower};
 
-use crate::blas::column;
 use crate::reduction::Reduction;
 use crate::reflection::reflect_with_sign;
+use crate::table::Table;
 use fault::Fault;
 use scalar::{Arithmetic, RealScalar, Scalar};
 
@@ -18,7 +18,7 @@ fn unit_entry<T: Scalar>(i: usize, j: usize) -> T
     if i == j { T::one() } else { T::zero() }
 }
 
-// The identity, column by column. The side and the table stand apart, here and below, as in `reduce`.
+// The identity, column by column. The side and q stand apart, here and below: `Table` is of one that is read, and q is written.
 fn identity<T: Scalar>(n: usize, q: &mut [T])
     requires some { 0 < n }
     requires held { length q.old ≡ n * n }
@@ -50,26 +50,35 @@ fn reflect_columns<T: Scalar>(q: &mut [T], n: usize, r: usize, m: usize, axis: &
     }
 }
 
-// Q: the identity, reflected across the last column's axis first and the first column's last.
-fn assemble_q<T: Scalar>(n: usize, table: &[T], signs: &[T], q: &mut [T])
-    requires some { 0 < n }
-    requires held { length table.now ≡ n * n }
-    requires as_signs { length signs.now ≡ n - 1 }
-    requires as_q { length q.old ≡ n * n }
-    ensures { q.new ≡ matrix_q (kind T.ops T.Real.ops T.Real.real) n
-        (lower n 0 n table.now) signs.now }
-{
-    identity(n, q);
-    // By index: each step lends what is left of q, and reads its axis from the table and its sign.
-    for i in (0..n - 1).rev() {
-        reflect_columns(
-            &mut q[i * n..],
-            n,
-            i + 1,
-            n - i,
-            column(table, n, i, i + 1),
-            norm_sign(signs[i]),
-        );
+impl<T: Scalar> Table<'_, T> {
+    // The axis that the reduction left in column j, below the diagonal.
+    fn axis(&self, j: usize) -> &[T]
+        requires { j < self.now.n }
+        ensures { let n = self.now.n in result.now ≡ take (n - (j + 1)) (drop (j * n + (j + 1)) self.now.entries.now) }
+    {
+        &self.entries[j * self.n + (j + 1)..j * self.n + self.n]
+    }
+
+    // Q: the identity, reflected across the last column's axis first and the first column's last.
+    fn assemble_q(&self, signs: &[T], q: &mut [T])
+        requires as_signs { length signs.now ≡ self.now.n - 1 }
+        requires as_q { length q.old ≡ self.now.n * self.now.n }
+        ensures { let n = self.now.n in q.new ≡ matrix_q (kind T.ops T.Real.ops T.Real.real) n
+            (lower n 0 n self.now.entries.now) signs.now }
+    {
+        let n = self.n;
+        identity(n, q);
+        // By index: each step lends what is left of q, and reads its axis from the table and its sign.
+        for i in (0..n - 1).rev() {
+            reflect_columns(
+                &mut q[i * n..],
+                n,
+                i + 1,
+                n - i,
+                self.axis(i),
+                norm_sign(signs[i]),
+            );
+        }
     }
 }
 
@@ -89,6 +98,6 @@ pub fn assemble<T: Scalar>(
     if [table.len(), signs.len(), q.len()] != [n * n, n - 1, n * n] {
         return Err(Fault::Length);
     }
-    assemble_q(n, table, signs, q);
+    Table { entries: table, n }.assemble_q(signs, q);
     Ok(())
 }

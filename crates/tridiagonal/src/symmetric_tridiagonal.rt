@@ -16,6 +16,7 @@ use crate::checks::check;
 use crate::householder::reflection_axis_mut;
 use crate::reduction::Reduction;
 use crate::square::Square;
+use crate::table::Table;
 use fault::Fault;
 use scalar::{Arithmetic, RealScalar, Scalar};
 
@@ -78,7 +79,7 @@ fn step<T: Scalar>(t: &mut [T], n: usize, i: usize, axis: &mut [T], p: &mut [T])
 }
 
 // All steps: the lower columns are reduced, and signs gets the norms. scratch is room to work in.
-// The side and the table stand apart, here and below, as in `reduce`: a struct of the two would be made and taken apart in each.
+// The side and the table stand apart, and no `Square` is reduced: what is left of one is lent to `step` as a slice all the same.
 fn reduce_columns<T: Scalar>(n: usize, table: &mut [T], signs: &mut [T], scratch: &mut [T])
     requires some { 0 < n }
     requires held { length table.old ≡ n * n }
@@ -111,12 +112,25 @@ fn largest_from<T: Scalar>(first: T::Real, rest: &[T]) -> T::Real
         .fold(first, |largest, x| largest.larger(x.size()))
 }
 
-// The largest size of an entry.
-fn largest_size<T: Scalar>(table: &[T]) -> T::Real
-    requires { 0 < length table.now }
-    ensures { result ≡ largest_size (kind T.ops T.Real.ops T.Real.real) table.now }
-{
-    largest_from(table[0].size(), &table[1..])
+impl<T: Scalar> Table<'_, T> {
+    // The largest size of an entry.
+    fn largest_size(&self) -> T::Real
+        ensures { result ≡ largest_size (kind T.ops T.Real.ops T.Real.real) self.now.entries.now }
+    {
+        largest_from(self.entries[0].size(), &self.entries[1..])
+    }
+
+    // The real parts of the diagonal.
+    #[tactic(auto, using(crate::proofs::Columns::column_held))]
+    fn read_diagonal(&self, values: &mut [T::Real])
+        requires { length values.old ≡ self.now.n }
+        ensures { let n = self.now.n in
+            values.new ≡ diagonal (kind T.ops T.Real.ops T.Real.real) (lower n 0 n self.now.entries.now) }
+    {
+        for (i, value) in values.iter_mut().enumerate() {
+            *value = self.entries[i * self.n + i].real();
+        }
+    }
 }
 
 // Divides every entry by the largest size, unless that is zero.
@@ -126,17 +140,6 @@ fn divide<T: Scalar>(table: &mut [T], largest: T::Real)
 {
     if !largest.is_zero() {
         unscale(table, largest);
-    }
-}
-
-// The real parts of the diagonal.
-fn read_diagonal<T: Scalar>(n: usize, table: &[T], values: &mut [T::Real])
-    requires held { length table.now ≡ n * n }
-    requires as_values { length values.old ≡ n }
-    ensures { values.new ≡ diagonal (kind T.ops T.Real.ops T.Real.real) (lower n 0 n table.now) }
-{
-    for (i, value) in values.iter_mut().enumerate() {
-        *value = table[i * n + i].real();
     }
 }
 
@@ -171,10 +174,10 @@ fn reduce_accepted<T: Scalar>(
         (Reduced result.side result.largest)
         (buffers table.new values.new offs.new signs.new scratch.new)) }
 {
-    let largest = largest_size(table);
+    let largest = Table { entries: table, n }.largest_size();
     divide(table, largest);
     reduce_columns(n, table, signs, scratch);
-    read_diagonal(n, table, values);
+    Table { entries: table, n }.read_diagonal(values);
     read_moduli(signs, offs);
     Reduction { side: n, largest }
 }

@@ -4,7 +4,6 @@ use Rattle.tridiagonal.specs.Outcome.{Reduced}
 use Rattle.tridiagonal.specs.Reduce.{divided}
 use Rattle.tridiagonal.specs.Runs.{buffers}
 use Rattle.tridiagonal.proofs.Accepted.{Accepted, accepted}
-use Rattle.tridiagonal.proofs.Columns.{column_held}
 use Rattle.tridiagonal.proofs.Law.{accepted_run, only_lower}
 use Rattle.tridiagonal.proofs.Whole.{whole_table, whole_signs, whole_offs, whole_values}
 use Rattle.tridiagonal.proofs.symmetric_tridiagonal.reduce_accepted.Given.{Over}
@@ -18,20 +17,22 @@ sized g c =
     accepted (kind g.T.Arithmetic.ops g.T.Real.Arithmetic.ops g.T.Real.RealScalar.real) c.args.n c.args.table.now
     (length c.args.values.now) (length c.args.offs.now) (length c.args.signs.now) (length c.args.scratch.now) c.requires
 
-pub largest_size-largest-requires : goal.largest_size-largest-requires
-largest_size-largest-requires g c =
-    let ok = sized g (goal.at.largest_size-largest-requires g c).Start in
-    let held = column_held 0 c.args.n c.args.n ok.some in omega arith
+pub invariant_of-largest_size : goal.invariant_of-largest_size
+invariant_of-largest_size g c =
+    let ok = sized g (goal.at.invariant_of-largest_size g c).Start in record { some = ok.some; held = ok.as_table }
 
 pub reduce_columns-requires : goal.reduce_columns-requires
 reduce_columns-requires g c =
     let ok = sized g (goal.at.reduce_columns-requires g c).Start in
     record { some = ok.some; held = c.divide.auto.table ∙ ok.as_table; as_signs = ok.as_signs; as_scratch = ok.as_scratch }
 
+pub invariant_of-read_diagonal : goal.invariant_of-read_diagonal
+invariant_of-read_diagonal g c =
+    let ok = sized g (goal.at.invariant_of-read_diagonal g c).Start in
+    record { some = ok.some; held = c.reduce_columns.auto.table ∙ c.divide.auto.table ∙ ok.as_table }
+
 pub read_diagonal-requires : goal.read_diagonal-requires
-read_diagonal-requires g c =
-    let ok = sized g (goal.at.read_diagonal-requires g c).Start in
-    record { held = c.reduce_columns.auto.table ∙ c.divide.auto.table ∙ ok.as_table; as_values = ok.as_values }
+read_diagonal-requires g c = (sized g (goal.at.read_diagonal-requires g c).Start).as_values
 
 pub read_moduli-requires : goal.read_moduli-requires
 read_moduli-requires g c =

@@ -5,12 +5,12 @@ use Rattle.tridiagonal.specs.Tables.{lower}
 use Rattle.tridiagonal.specs.Tridiagonal.{diagonal}
 use Rattle.tridiagonal.proofs.Columns.{column_held, column_next, lower_more, lower_none}
 use Rattle.tridiagonal.proofs.Writes.{write_out, written}
-use Rattle.tridiagonal.proofs.symmetric_tridiagonal.read_diagonal.Goals as goal
+use Rattle.tridiagonal.proofs.table.Table.read_diagonal.Goals as goal
 
 pub loop-i-preserved : goal.loop-i-preserved
 loop-i-preserved g c =
     let K = kind g.T.Arithmetic.ops g.T.Real.Arithmetic.ops g.T.Real.RealScalar.real in
-    let n = c.args.n in let i = c.loop-i.i in let t = c.args.table.now in
+    let n = c.args.self.now.n in let i = c.loop-i.i in let t = c.args.self.now.entries.now in
     let less : i < n = omega arith in
     let all : i + (n - i) ≡ n = omega arith in
     let some : 0 < n - i = omega arith in
@@ -22,7 +22,7 @@ loop-i-preserved g c =
     get_or-take (n - i) (drop (i * n + i) t) 0 K.ops.zero some ∙ get_or-drop (i * n + i) t 0 K.ops.zero
     ∙ ap (λ (k : ℕ). get_or t k K.ops.zero) (add-zero (i * n + i)) in
     let is = c.real.ensures.value
-    ∙ ap K.ops.real (get_or_read t (i * n + i) c.index-table-i.result there c.index-table-i.is K.ops.zero ∙ sym entry) in
+    ∙ ap K.ops.real (sym c.index-self-i.is ∙ get_or_read t (i * n + i) c.index-self-i.result there c.index-self-i.is K.ops.zero ∙ sym entry) in
     let cols = lower_more n i (n - i) (i * n) ((i + 1) * n) t all some (column_next i n)
     ∙ ap (λ (m : ℕ). first ∷ lower n (i + 1) m (drop ((i + 1) * n) t)) count in
     write_out (diagonal K (lower n i (n - i) (drop (i * n) t))) (diagonal K (lower n (i + 1) (n - (i + 1)) (drop ((i + 1) * n) t)))
@@ -33,7 +33,7 @@ loop-i-preserved g c =
 pub returns : goal.returns
 returns g c =
     let K = kind g.T.Arithmetic.ops g.T.Real.Arithmetic.ops g.T.Real.RealScalar.real in
-    let n = c.args.n in let i = c.loop-i.i in let t = c.args.table.now in
+    let n = c.args.self.now.n in let i = c.loop-i.i in let t = c.args.self.now.entries.now in
     let none : n - i ≡ 0 = omega arith in
     let full : length c.loop-i.values ≤ i = omega arith in
     sym (written c.loop-i.values (diagonal K (lower n i (n - i) (drop (i * n) t))) i full

@@ -1,0 +1,11 @@
+// A table that is read, in a file of its own: a struct with ghost fields imports each `ghost use` of its file.
+ghost use Rattle.std.specs.Prelude.{◌≡◌, ◌*◌, ◌<◌, length};
+
+// The n * n entries of a table of side n, column by column.
+#[derive(Drop)]
+pub(crate) struct Table<'a, T> {
+    pub(crate) entries: &'a [T],
+    pub(crate) n: usize,
+    ghost some: { 0 < n },
+    ghost held: { length entries.now ≡ n * n },
+}
