@@ -2,7 +2,7 @@
 use Rattle.std.proofs.Common.{◌≡◌, ℕ, suc, ◌+◌, ◌/◌, ◌%◌, ◌<◌, Bool, true, false, not, cond, List, [], ◌∷◌, fold, length, get_or, drop, position, Some, None, Option, sym, refl, ap, ◌∙◌, add-one}
 use Rattle.std.specs.List.{position_from}
 use Rattle.std.proofs.lemmas.Iterator.Adapters.{position_from-zero}
-use Rattle.std.proofs.lemmas.List.{get_or_read}
+use Rattle.std.proofs.lemmas.List.{get_or_default}
 use Rattle.fault.specs.Refusals.{Refusal, refused}
 use Rattle.tridiagonal.specs.Checks.{entry_refusal}
 use Rattle.tridiagonal.specs.Householder.{Kind}
@@ -37,9 +37,9 @@ module _ {C R : Type 0} (K : Kind C R) where
   largest_fold l [] = refl
   largest_fold l (x ∷ xs) = largest_fold (larger_size l x) xs
 
-  pub largest_is : (t : List C) (x : C) (l m : R) → 0 < length t → x ≡ get_or t 0 x → l ≡ K.ops.size x →
+  pub largest_is : (t : List C) (x : C) (l m : R) → 0 < length t → l ≡ K.ops.size (get_or t 0 x) →
       m ≡ fold larger_size l (drop 1 t) → m ≡ largest_size K t
   unfolding largest_size
-  largest_is t x l m h is e f =
+  largest_is t x l m h e f =
       f ∙ largest_fold l (drop 1 t)
-      ∙ ap (λ (r : R). largest_from K r (drop 1 t)) (e ∙ ap K.ops.size (get_or_read t 0 x h is K.ops.zero))
+      ∙ ap (λ (r : R). largest_from K r (drop 1 t)) (e ∙ ap K.ops.size (get_or_default t 0 x K.ops.zero h))

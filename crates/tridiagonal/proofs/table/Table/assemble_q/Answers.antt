@@ -9,9 +9,10 @@ use Rattle.tridiagonal.proofs.table.Table.assemble_q.Goals as goal
 
 pub loop-i-init : goal.loop-i-init
 loop-i-init g c =
-    let full : length c.args.signs.now ≤ c.args.self.now.n - 1 = omega arith in
-    c.identity.ensures ∙ sym (assembled_none (kind g.T.Arithmetic.ops g.T.Real.Arithmetic.ops g.T.Real.RealScalar.real) c.args.self.now.n
-    (c.args.self.now.n - 1) _ c.args.signs.now full)
+    let K = kind g.T.Arithmetic.ops g.T.Real.Arithmetic.ops g.T.Real.RealScalar.real in
+    let n = c.args.self.now.n in let signs = c.args.signs.now in
+    let full : length signs ≤ n - 1 = omega arith in
+    c.identity.ensures ∙ sym (assembled_none K n (n - 1) _ signs full)
 
 pub reflect_columns-requires-clause-held : goal.reflect_columns-requires-clause-held
 reflect_columns-requires-clause-held g c =
@@ -23,7 +24,8 @@ reflect_columns-requires-clause-held g c =
 pub loop-i-preserved : goal.loop-i-preserved
 loop-i-preserved g c =
     let K = kind g.T.Arithmetic.ops g.T.Real.Arithmetic.ops g.T.Real.RealScalar.real in
-    let n = c.args.self.now.n in let i = c.loop-i.i in let p = i - 1 in let t = c.args.self.now.entries.now in let signs = c.args.signs.now in
+    let n = c.args.self.now.n in let i = c.loop-i.i in let p = i - 1 in
+    let t = c.args.self.now.entries.now in let signs = c.args.signs.now in
     let below = c.loop-i.auto.i in
     let some : p + 1 < n = omega arith in
     let has : p < length signs = omega arith in
@@ -35,6 +37,6 @@ loop-i-preserved g c =
 
 pub returns : goal.returns
 returns g c =
+    let K = kind g.T.Arithmetic.ops g.T.Real.Arithmetic.ops g.T.Real.RealScalar.real in
     let end : c.loop-i.i ≡ 0 = omega arith in
-    c.loop-i.invariant ∙ assembled_all (kind g.T.Arithmetic.ops g.T.Real.Arithmetic.ops g.T.Real.RealScalar.real) c.args.self.now.n
-    c.loop-i.i c.args.self.now.entries.now c.args.signs.now end
+    c.loop-i.invariant ∙ assembled_all K c.args.self.now.n c.loop-i.i c.args.self.now.entries.now c.args.signs.now end

@@ -1,5 +1,5 @@
 use Rattle.std.proofs.Common.{◌≡◌, ℕ, ◌+◌, ◌-◌, ◌*◌, ◌<◌, ◌≤◌, ◌∷◌, length, get_or, take, drop, sym, ap, ◌∙◌, add-zero, arith, get_or-drop, get_or-take}
-use Rattle.std.proofs.lemmas.List.{get_or_read}
+use Rattle.std.proofs.lemmas.List.{get_or_default}
 use Rattle.tridiagonal.specs.Householder.{kind}
 use Rattle.tridiagonal.specs.Tables.{lower}
 use Rattle.tridiagonal.specs.Tridiagonal.{diagonal}
@@ -22,7 +22,7 @@ loop-i-preserved g c =
     get_or-take (n - i) (drop (i * n + i) t) 0 K.ops.zero some ∙ get_or-drop (i * n + i) t 0 K.ops.zero
     ∙ ap (λ (k : ℕ). get_or t k K.ops.zero) (add-zero (i * n + i)) in
     let is = c.real.ensures.value
-    ∙ ap K.ops.real (sym c.index-self-i.is ∙ get_or_read t (i * n + i) c.index-self-i.result there c.index-self-i.is K.ops.zero ∙ sym entry) in
+    ∙ ap K.ops.real (get_or_default t (i * n + i) c.index-self-i.result K.ops.zero there ∙ sym entry) in
     let cols = lower_more n i (n - i) (i * n) ((i + 1) * n) t all some (column_next i n)
     ∙ ap (λ (m : ℕ). first ∷ lower n (i + 1) m (drop ((i + 1) * n) t)) count in
     write_out (diagonal K (lower n i (n - i) (drop (i * n) t))) (diagonal K (lower n (i + 1) (n - (i + 1)) (drop ((i + 1) * n) t)))
