@@ -1,5 +1,5 @@
 // Sums over columns, in the order in which they round.
-ghost use Rattle.std.specs.Prelude.{◌≡◌, ◌+◌, ◌-◌, ◌*◌, ◌/◌, ◌<◌, ◌≤◌, ◌∷◌, length, take, drop};
+ghost use Rattle.std.specs.Prelude.{◌≡◌, ◌+◌, ◌-◌, ◌*◌, ◌/◌, ◌<◌, ◌∷◌, length, take, drop};
 ghost use borrow.Rule.Slice.PartMut.{put_mid};
 ghost use Rattle.tridiagonal.specs.Blas.{no_sums, running_sums, dotc_of};
 ghost use Rattle.tridiagonal.specs.Blas.{axc_of, axcpy_of, axpy_of, norm_squared_of, norm_of, unscaled, normalised};

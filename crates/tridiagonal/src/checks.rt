@@ -1,5 +1,5 @@
 // What a reduction is refused for.
-ghost use Rattle.std.specs.Prelude.{◌≡◌, ◌-◌, ◌*◌, ◌<◌, not, position};
+ghost use Rattle.std.specs.Prelude.{◌≡◌, not, position};
 ghost use Rattle.tridiagonal.specs.Checks.{entry_refusal, refusal_for};
 ghost use Rattle.tridiagonal.specs.Householder.{kind};
 ghost use Rattle.tridiagonal.specs.Outcome.{refused_in};

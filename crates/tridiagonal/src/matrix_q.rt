@@ -18,7 +18,7 @@ fn unit_entry<T: Scalar>(i: usize, j: usize) -> T
     if i == j { T::one() } else { T::zero() }
 }
 
-// The identity, column by column. The side and q stand apart, here and below: `Table` is of one that is read, and q is written.
+// The identity, column by column. The side and q stand apart, here and below: a `Table` is read, and q is written.
 fn identity<T: Scalar>(n: usize, q: &mut [T])
     requires some { 0 < n }
     requires held { length q.old ≡ n * n }

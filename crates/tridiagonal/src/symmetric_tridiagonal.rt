@@ -79,7 +79,7 @@ fn step<T: Scalar>(t: &mut [T], n: usize, i: usize, axis: &mut [T], p: &mut [T])
 }
 
 // All steps: the lower columns are reduced, and signs gets the norms. scratch is room to work in.
-// The side and the table stand apart, and no `Square` is reduced: what is left of one is lent to `step` as a slice all the same.
+// The side and the table stand apart: a `Square` of both would be taken apart in each step, which takes a slice.
 fn reduce_columns<T: Scalar>(n: usize, table: &mut [T], signs: &mut [T], scratch: &mut [T])
     requires some { 0 < n }
     requires held { length table.old ≡ n * n }

@@ -1,4 +1,4 @@
-// A table that is read, in a file of its own: a struct with ghost fields imports each `ghost use` of its file.
+// A table that is read.
 ghost use Rattle.std.specs.Prelude.{◌≡◌, ◌*◌, ◌<◌, length};
 
 // The n * n entries of a table of side n, column by column.
