@@ -10,7 +10,6 @@ use Rattle.tridiagonal.specs.Tables.{lower, put}
 use Rattle.tridiagonal.proofs.Columns.{lower_more, put_more, Shaped}
 
 pub length_zipped : {C : Type 0} (f : C → C → C) (xs ys : List C) → length (zipped f xs ys) ≡ length ys
-unfolding zipped
 length_zipped f [] ys = refl
 length_zipped f (x ∷ xs) [] = refl
 length_zipped f (x ∷ xs) (y ∷ ys) = ap suc (length_zipped f xs ys)

@@ -42,7 +42,6 @@ module _ {C R : Type 0} (K : Kind C R) where
   length_unscaled d xs = length-map xs (λ x. K.ops.unscale x d)
 
   length_normalised : (xs : List C) → length (normalised K.ops K.real xs) ≡ length xs
-  unfolding normalised
   length_normalised xs = length_unscaled (norm_of K.ops K.real xs) xs
 
   pub length_axis : (xs : List C) → length (axis_of K xs) ≡ length xs

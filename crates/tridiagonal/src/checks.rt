@@ -5,7 +5,7 @@ ghost use Rattle.tridiagonal.specs.Householder.{kind};
 ghost use Rattle.tridiagonal.specs.Outcome.{refused_in};
 
 use crate::table::Table;
-use fault::Fault;
+use fault::{Fault, side_fits};
 use scalar::{Arithmetic, RealScalar, Scalar};
 
 // The place of the first entry whose size is not finite: apart from its refusal, so that the search is proved alone.
@@ -21,13 +21,13 @@ impl<T: Scalar> Table<'_, T> {
     fn check_entries(&self) -> Result<(), Fault>
         ensures { refused_in result ≡ entry_refusal (kind T.ops T.Real.ops T.Real.real) self.now.n 0 self.now.entries.now }
     {
-        match first_not_finite(self.entries) {
-            Some(k) => Err(Fault::Entry {
-                row: k % self.n,
-                column: k / self.n,
-            }),
-            None => Ok(()),
-        }
+        let Some(k) = first_not_finite(self.entries) else {
+            return Ok(());
+        };
+        Err(Fault::Entry {
+            row: k % self.n,
+            column: k / self.n,
+        })
     }
 }
 
@@ -44,7 +44,7 @@ pub(crate) fn check<T: Scalar>(
     ensures { refused_in result ≡ refusal_for (kind T.ops T.Real.ops T.Real.real) n
         table.now values.now offs.now signs.now scratch.now }
 {
-    if !(1..=512).contains(&n) {
+    if !side_fits(n) {
         return Err(Fault::Side);
     }
     let lengths = [
