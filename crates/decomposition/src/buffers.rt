@@ -37,7 +37,7 @@ fn push_column<T: Scalar, K: Keeper<T>>(
     Ok(())
 }
 
-// All that a keeper holds, column by column.
+// All that a keeper holds, column by column. By index, as in `push_column`.
 #[tactic(auto, using(crate::proofs::HeldRows::columns_none, crate::proofs::HeldRows::columns_more))]
 pub(crate) fn columns_of<T: Scalar, K: Keeper<T>>(
     heap: Global,

@@ -17,6 +17,7 @@ fn read_sheet(rt: &HostRuntime) -> anyhow::Result<Vec<u8>> {
 
 fn main(rt: HostRuntime) -> anyhow::Result<()> {
     let sheet = read_sheet(&rt)?;
+    // The words as in sheet_check: each program has its own.
     let listing = list_sheet(rt.alloc(), &sheet).map_err(|_| anyhow!(
         "no memory for the sheet's tables"
     ))?;

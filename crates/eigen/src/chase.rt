@@ -170,6 +170,7 @@ pub(crate) fn chase<T: Scalar, K: Keeper<T>>(
         (K.kept keeper.old) }
 {
     let mut bulge = form.first_bulge(block);
+    // A labelled break, a form that docs/DECISIONS.md lists, out of the rotations of the columns i and i + 1.
     'chase: for i in block.start..block.end {
         let Some(found) = cancel_y(bulge) else {
             break 'chase;

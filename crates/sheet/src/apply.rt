@@ -108,6 +108,7 @@ impl Desk {
         }
     }
 
+    // Two, here and below, of which the call is all that differs: a function that took it would ask for what the call promises.
     fn set_tolerance(self, tolerance: f64) -> Result<Applied, Stopped>
         ensures outcome { after_of result ≡ tolerates (desk_of self) tolerance }
     {

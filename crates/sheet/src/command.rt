@@ -18,7 +18,7 @@ pub enum Code {
     Vectors,
 }
 
-// Each case borrows its operands: the form of a command is fixed, so no `Code` with operands beside it.
+// Each case borrows its operands, a form that docs/DECISIONS.md lists: so no `Code` with operands beside it.
 #[derive(Clone, Copy)]
 pub enum Command<'a> {
     Open(Operands<'a>),

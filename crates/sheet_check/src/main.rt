@@ -28,6 +28,7 @@ fn bytes_of(heap: Global, text: &[u8]) -> Result<Vec<u8>, AllocError> {
 
 // The listing of a sheet, in one line: each newline is a bar.
 fn list(heap: Global, sheet: &[u8]) -> anyhow::Result<String> {
+    // The words as in directions: each program has its own.
     let listing = list_sheet(heap, sheet).map_err(|_| anyhow!("no memory for the sheet's tables"))?;
     let line = listing
         .text(heap)?
