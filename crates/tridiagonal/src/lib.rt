@@ -1,5 +1,6 @@
 // The tridiagonal form of a symmetric or Hermitian table, and its matrix Q.
 #![tactic(auto)]
+// Clauses name the three records of a kind's operations: one member of `Scalar` for them would be taken apart by a law in each proof.
 
 mod blas;
 mod checks;
