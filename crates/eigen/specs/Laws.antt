@@ -5,6 +5,7 @@ use Rattle.rows.specs.Keepers.{Kept, Answer}
 use Rattle.eigen.specs.Turnings.{kept_all}
 use Rattle.eigen.specs.Iterate.{settled, not_settled}
 use Rattle.eigen.specs.Settles.{Task, allowed, settle_of}
+use Rattle.tridiagonal.specs.declared.reduction.Reduction.{Reduction}
 use Rattle.tridiagonal.specs.Householder.{kind}
 use Rattle.tridiagonal.specs.Outcome.{Reduced}
 use Rattle.tridiagonal.specs.Runs.{Run as Reducing, ReduceRun, AlikeBelow, SameForm}
@@ -26,9 +27,15 @@ pub record Finish (C R : Type 0) : Type 0 where
   pub offs : List R
   pub kept : Kept C
 
-abbrev pub start_of : {C R : Type 0} → ℕ → R → List R → List R → R → Kept C → Start C R
-start_of side largest values offs tolerance kept =
-    record { side = side; largest = largest; values = values; offs = offs; tolerance = tolerance; kept = kept }
+abbrev pub start_of : {C R : Type 0} → Reduction R → List R → List R → R → Kept C → Start C R
+start_of reduction values offs tolerance kept = record {
+  side = reduction.side;
+  largest = reduction.largest;
+  values = values;
+  offs = offs;
+  tolerance = tolerance;
+  kept = kept;
+}
 
 abbrev pub finish_of : {C R : Type 0} → Answer ℕ → List R → List R → Kept C → Finish C R
 finish_of answer values offs kept = record { answer = answer; values = values; offs = offs; kept = kept }

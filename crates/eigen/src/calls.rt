@@ -26,20 +26,16 @@ pub fn settle<T: Scalar, K: Keeper<T>>(
         (length values.old) (length offs.old) tolerance limit
         (K.kept keeper.old).width reduction.side) reduction.side reduction.largest }
     ensures run { IsRun T.ops T.Real.ops T.Real.real
-        (start_of reduction.side reduction.largest values.old offs.old tolerance
-        (K.kept keeper.old)) limit
+        (start_of reduction values.old offs.old tolerance (K.kept keeper.old)) limit
         (finish_of (answer_of result) values.new offs.new (K.kept keeper.new)) }
     ensures any_keeper { AnyKeeper T.ops T.Real.ops T.Real.real
-        (start_of reduction.side reduction.largest values.old offs.old tolerance
-        (K.kept keeper.old)) limit
+        (start_of reduction values.old offs.old tolerance (K.kept keeper.old)) limit
         (finish_of (answer_of result) values.new offs.new (K.kept keeper.new)) }
     ensures any_upper { AnyUpper T.ops T.Real.ops T.Real.real
-        (start_of reduction.side reduction.largest values.old offs.old tolerance
-        (K.kept keeper.old)) limit
+        (start_of reduction values.old offs.old tolerance (K.kept keeper.old)) limit
         (finish_of (answer_of result) values.new offs.new (K.kept keeper.new)) }
     ensures any_limit { AnyLimit T.ops T.Real.ops T.Real.real
-        (start_of reduction.side reduction.largest values.old offs.old tolerance
-        (K.kept keeper.old))
+        (start_of reduction values.old offs.old tolerance (K.kept keeper.old))
         (finish_of (answer_of result) values.new offs.new (K.kept keeper.new)) }
 {
     // No map_err: its closure would take the reduction from the run.

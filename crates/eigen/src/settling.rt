@@ -66,20 +66,16 @@ pub(crate) fn lawful_run<T: Scalar, K: Keeper<T>>(
     requires { given tt ≡ check_of T.Real.ops T.Real.real (length form.old.values.now)
         (length form.old.offs.now) tolerance limit (K.kept keeper.old).width reduction.now.side }
     ensures run { IsRun T.ops T.Real.ops T.Real.real
-        (start_of reduction.now.side reduction.now.largest form.old.values.now form.old.offs.now tolerance
-        (K.kept keeper.old)) limit
+        (start_of reduction.now form.old.values.now form.old.offs.now tolerance (K.kept keeper.old)) limit
         (finish_of (answered result) form.new.values.now form.new.offs.now (K.kept keeper.new)) }
     ensures any_keeper { AnyKeeper T.ops T.Real.ops T.Real.real
-        (start_of reduction.now.side reduction.now.largest form.old.values.now form.old.offs.now tolerance
-        (K.kept keeper.old)) limit
+        (start_of reduction.now form.old.values.now form.old.offs.now tolerance (K.kept keeper.old)) limit
         (finish_of (answered result) form.new.values.now form.new.offs.now (K.kept keeper.new)) }
     ensures any_upper { AnyUpper T.ops T.Real.ops T.Real.real
-        (start_of reduction.now.side reduction.now.largest form.old.values.now form.old.offs.now tolerance
-        (K.kept keeper.old)) limit
+        (start_of reduction.now form.old.values.now form.old.offs.now tolerance (K.kept keeper.old)) limit
         (finish_of (answered result) form.new.values.now form.new.offs.now (K.kept keeper.new)) }
     ensures any_limit { AnyLimit T.ops T.Real.ops T.Real.real
-        (start_of reduction.now.side reduction.now.largest form.old.values.now form.old.offs.now tolerance
-        (K.kept keeper.old))
+        (start_of reduction.now form.old.values.now form.old.offs.now tolerance (K.kept keeper.old))
         (finish_of (answered result) form.new.values.now form.new.offs.now (K.kept keeper.new)) }
     ensures same { SameBuffers form.old form.new }
 {

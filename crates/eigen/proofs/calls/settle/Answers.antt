@@ -14,7 +14,7 @@ returns-in-Err g c =
     let q = g.T.Real.RealScalar.real in
     let kept = g.K.Keeper.kept c.args.keeper.now in
     let n = c.args.limit in
-    let s = start_of c.args.reduction.side c.args.reduction.largest c.args.values.now c.args.offs.now c.args.tolerance kept in
+    let s = start_of c.args.reduction c.args.values.now c.args.offs.now c.args.tolerance kept in
     let f = finish_of (denied (refusal c.in-Err.fault)) c.args.values.now c.args.offs.now kept in
     let r : IsRun o p q s n f = refused_run o p q s n (refusal c.in-Err.fault) c.in-Err.ensures.answer in
     record {

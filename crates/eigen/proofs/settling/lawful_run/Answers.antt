@@ -12,8 +12,7 @@ returns g c =
     let q = g.T.Real.RealScalar.real in
     let values = c.args.form.now.values.now in
     let n = c.args.limit in
-    let s = start_of c.args.reduction.now.side c.args.reduction.now.largest values c.args.form.now.offs.now c.args.tolerance
-    (g.K.Keeper.kept c.args.keeper.now) in
+    let s = start_of c.args.reduction.now values c.args.form.now.offs.now c.args.tolerance (g.K.Keeper.kept c.args.keeper.now) in
     let f = finish_of (answered c.run.result) c.run.new.form.values.now c.run.new.form.offs.now (g.K.Keeper.kept c.run.new.keeper) in
     let side : length values ≡ c.args.reduction.now.side = search rules in
     let r : IsRun o p q s n f =
