@@ -13,7 +13,7 @@ use tridiagonal::Reduction;
 
 // Settles a reduction with the values and off-diagonal entries that it left, and turns the keeper's rows along. The reduction is moved in:
 // what the checks refuse hands it back, and a run uses it up.
-// Each law of the run stands in a clause of its own, with what it starts from and comes to, so that each can be read alone.
+// No record of the laws, as of `reduce`: each is a law of its own, which docs name by its clause.
 pub fn settle<T: Scalar, K: Keeper<T>>(
     reduction: Reduction<T::Real>,
     values: &mut [T::Real],

@@ -2,31 +2,25 @@
 ghost use Rattle.std.specs.Prelude.{◌≡◌, length};
 ghost use Rattle.rows.specs.Keepers.{answered, given};
 ghost use Rattle.eigen.specs.Forms.{SameBuffers};
-ghost use Rattle.eigen.specs.Settles.{allowed, unlawful, check_of};
+ghost use Rattle.eigen.specs.Settles.{unlawful, check_of};
 ghost use Rattle.eigen.specs.Laws.{IsRun, AnyKeeper, AnyUpper, AnyLimit, start_of, finish_of};
 
 use crate::form::Tridiagonal;
 use crate::symmetric_eigen::run;
-use fault::Fault;
+use fault::{Fault, limit_fits};
 use rows::Keeper;
 use scalar::{Arithmetic, RealScalar, Scalar};
 use tridiagonal::Reduction;
 
-// A job has the same two tests, and no function of both stands in `fault`: the contracts of each crate name its own definition.
+// A job has the same test, as a fact of its type, of an f64: this one is of any real kind.
 fn is_unlawful<R: RealScalar>(tolerance: R) -> bool
     ensures answer { result ≡ unlawful R.ops R.real tolerance }
 {
     tolerance.lt(R::zero()) || !tolerance.is_finite()
 }
 
-fn is_allowed(limit: u32) -> bool
-    ensures answer { result ≡ allowed limit }
-{
-    (1..=1_000_000).contains(&limit)
-}
-
 // The first refusal that is due: of the lengths, the tolerance, the limit, the keeper's width.
-// Tolerance and limit stand apart, here and below, as in `settle`, whose signature is fixed.
+// Tolerance and limit stand apart, here and below, as in `settle`: a struct of the two would ask its callers for what is checked here.
 pub(crate) fn check<T: Scalar, K: Keeper<T>>(
     reduction: &Reduction<T::Real>,
     values: &[T::Real],
@@ -45,7 +39,7 @@ pub(crate) fn check<T: Scalar, K: Keeper<T>>(
     if is_unlawful(tolerance) {
         return Err(Fault::Tolerance);
     }
-    if !is_allowed(limit) {
+    if !limit_fits(limit) {
         return Err(Fault::Limit);
     }
     if keeper.width() != side {
