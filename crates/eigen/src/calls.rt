@@ -13,7 +13,7 @@ use tridiagonal::Reduction;
 
 // Settles a reduction with the values and off-diagonal entries that it left, and turns the keeper's rows along. The reduction is moved in:
 // what the checks refuse hands it back, and a run uses it up.
-// No record of the laws, as of `reduce`: each is a law of its own, which docs name by its clause.
+// No record of the laws, as of `reduce`: README tells them one by one, and they are not the parts of one.
 pub fn settle<T: Scalar, K: Keeper<T>>(
     reduction: Reduction<T::Real>,
     values: &mut [T::Real],

@@ -1,7 +1,6 @@
 // The search for the block of a tridiagonal form that the next pass works on.
-ghost use Rattle.std.specs.Prelude.{◌≡◌, ◌<◌, ◌≤◌, Some, length};
-ghost use Rattle.eigen.specs.Blocks.{bound, above, within, negligible, end_from, start_from, cut_at, block_from, offs_from};
-ghost use Rattle.eigen.specs.Blocks.{block_in};
+ghost use Rattle.std.specs.Prelude.{◌≡◌, ◌<◌, ◌≤◌, length};
+ghost use Rattle.eigen.specs.Blocks.{bound, above, within, negligible, end_from, start_from, cut_at, block_in, block_from, offs_from};
 ghost use Rattle.eigen.specs.Forms.{SameBuffers};
 
 use crate::block::Block;

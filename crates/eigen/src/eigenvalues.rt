@@ -29,6 +29,7 @@ pub(crate) fn compute_2x2_eigvals<R: RealScalar>(corner: Corner<R>) -> Option<Ve
     let h01 = h10.conjugate();
     let value = half_difference(h00, h11);
     let discriminant = h10.mul(h01).add(value.mul(value));
+    // No `then`: its closure would hold all three statements.
     if R::zero().le(discriminant) {
         let root = discriminant.sqrt();
         let half_trace = h00.add(h11).mul(R::HALF);

@@ -76,9 +76,7 @@ pub(crate) fn try_new<R: RealScalar>(vector: Vector2<R>, tolerance: R) -> Option
     let Vector2 { x, y } = vector;
     let (modulus, sign) = x.split_sign();
     let length = length(modulus, y);
-    if tolerance.lt(length) {
-        Some(normed_by(modulus, y, length, sign))
-    } else {
-        None
-    }
+    tolerance
+        .lt(length)
+        .then(|| normed_by(modulus, y, length, sign))
 }

@@ -21,6 +21,7 @@ impl Place {
         ensures inside { is_some result ≡ (nat_lt row side && nat_lt column side) }
         ensures place { IfSome result (λ p. (p.side ≡ side) × (p.row ≡ row) × (p.column ≡ column)) }
     {
+        // No `then`, here and below: its closure does not know that the two lie inside (`invariant_of-result`).
         if row < side && column < side {
             Some(Self { side, row, column })
         } else {

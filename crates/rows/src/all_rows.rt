@@ -23,6 +23,7 @@ impl<'a, T: Scalar> AllRows<'a, T> {
     pub fn check(width: usize, count: usize, length: usize) -> Result<(), Fault>
         ensures answer { answered result ≡ all_rows_check width count «length» }
     {
+        // Of rows there may be none: a count is no side.
         if !side_fits(width) || count > 512 {
             return Err(Fault::Side);
         }

@@ -43,7 +43,7 @@ fn list_tables(heap: Global, sheet: &[u8]) -> Result<Listing, SheetFault>
     ensures memory { IsOkUnless result Memory }
 {
     let mut headings = Vec::new(heap);
-    // a place, and no iterator of tables: `next_table` reads on from any place, as its clause `one_by_one` says
+    // No iterator: it would be this loop, with heap, sheet and place as its fields; `next_table` reads on from any place.
     let mut place = 0;
     'tables: loop {
         match next_table(heap, sheet, place) {

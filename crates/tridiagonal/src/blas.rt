@@ -13,6 +13,7 @@ use scalar::{Arithmetic, RealScalar, Scalar};
 
 // The eight running sums over all whole chunks of eight entries.
 // By index: a zip of two chunks_exact asks both for their end at each chunk; a reduction of side 512 took 0.585 s in place of 0.553 s.
+// Nor x alone by chunks: y would be read by the same index.
 fn chunk_sums<T: Scalar>(x: &[T], y: &[T]) -> Sums<T>
     requires { length x.now ≡ length y.now }
     ensures { result ≡ running_sums T.ops (length x.now / 8) (no_sums T.ops) x.now y.now }

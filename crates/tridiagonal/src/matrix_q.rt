@@ -18,7 +18,8 @@ fn unit_entry<T: Scalar>(i: usize, j: usize) -> T
     if i == j { T::one() } else { T::zero() }
 }
 
-// The identity, column by column. The side and q stand apart, here and below: a `Table` is read, and q is written.
+// The identity, column by column.
+// The side and q, and how many columns q is, stand apart, here and below: a `Table` is read, and q is written.
 fn identity<T: Scalar>(n: usize, q: &mut [T])
     requires some { 0 < n }
     requires held { length q.old ≡ n * n }
@@ -52,6 +53,7 @@ fn reflect_columns<T: Scalar>(q: &mut [T], n: usize, r: usize, m: usize, axis: &
 
 impl<T: Scalar> Table<'_, T> {
     // The axis that the reduction left in column j, below the diagonal.
+    // Beside `Square::column`: a square borrows its cells to write them, and a table is read.
     fn axis(&self, j: usize) -> &[T]
         requires { j < self.now.n }
         ensures { let n = self.now.n in result.now ≡ take (n - (j + 1)) (drop (j * n + (j + 1)) self.now.entries.now) }
