@@ -1,0 +1,8 @@
+//! What the programs share.
+pub mod kinds;
+pub mod library;
+pub mod others;
+pub mod point;
+pub mod random;
+pub mod reference;
+pub mod tables;
