@@ -19,7 +19,7 @@ fn links(name: &str) -> bool {
     match pkg_config("--libs", name) {
         Some(flags) => {
             for flag in flags.split_whitespace() {
-                println!("cargo:rustc-link-arg={flag}");
+                println!("cargo:rustc-link-arg-bin=speed={flag}");
             }
             true
         }
@@ -30,7 +30,7 @@ fn links(name: &str) -> bool {
 /// Compiles the call of Eigen, where this machine has its headers and a compiler for them.
 fn compiles_eigen() -> bool {
     println!("cargo:rerun-if-env-changed=EIGEN_INCLUDE");
-    println!("cargo:rerun-if-changed=src/eigen.cpp");
+    println!("cargo:rerun-if-changed=src/bin/speed/eigen.cpp");
     let include = match env::var("EIGEN_INCLUDE") {
         Ok(folder) => format!("-I{folder}"),
         Err(_) => match pkg_config("--cflags", "eigen3") {
@@ -42,7 +42,7 @@ fn compiles_eigen() -> bool {
     let object = out.join("eigen.o");
     let archive = out.join("libeigen_call.a");
     let compiled = Command::new("c++")
-        .args(["-O3", "-DNDEBUG", "-std=c++17", "-c", "src/eigen.cpp", "-o"])
+        .args(["-O3", "-DNDEBUG", "-std=c++17", "-c", "src/bin/speed/eigen.cpp", "-o"])
         .arg(&object)
         .args(include.split_whitespace())
         .status();
@@ -50,8 +50,8 @@ fn compiles_eigen() -> bool {
     if !matches!((compiled, archived), (Ok(c), Ok(a)) if c.success() && a.success()) {
         return false;
     }
-    println!("cargo:rustc-link-arg={}", archive.display());
-    println!("cargo:rustc-link-arg=-lstdc++");
+    println!("cargo:rustc-link-arg-bin=speed={}", archive.display());
+    println!("cargo:rustc-link-arg-bin=speed=-lstdc++");
     true
 }
 

@@ -24,6 +24,10 @@ pub trait Real: RealField + Copy {
 
     /// 2^-52 or 2^-23.
     fn epsilon() -> Self;
+
+    fn infinity() -> Self;
+
+    fn nan() -> Self;
 }
 
 macro_rules! reals {
@@ -39,7 +43,7 @@ macro_rules! reals {
             }
 
             fn unit(random: &mut Random) -> $real {
-                (random.next() >> (63 - $digits)) as $real / (1u64 << $digits) as $real - 1.0
+                (random.draw() >> (63 - $digits)) as $real / (1u64 << $digits) as $real - 1.0
             }
 
             fn power(k: i32) -> $real {
@@ -49,6 +53,14 @@ macro_rules! reals {
 
             fn epsilon() -> $real {
                 <$real>::EPSILON
+            }
+
+            fn infinity() -> $real {
+                <$real>::INFINITY
+            }
+
+            fn nan() -> $real {
+                <$real>::NAN
             }
         }
     )*};
@@ -76,7 +88,11 @@ pub trait Kind: ComplexField<RealField: Real> + Copy {
 
 fn signed_part<R: Real>(random: &mut Random) -> R {
     let part = if random.chance(70) { R::zero() } else { R::one() };
-    if random.chance(50) { -part } else { part }
+    if random.chance(50) {
+        -part
+    } else {
+        part
+    }
 }
 
 macro_rules! kinds {

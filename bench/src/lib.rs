@@ -1,7 +1,6 @@
 //! What the programs share.
 pub mod kinds;
 pub mod library;
-pub mod others;
 pub mod point;
 pub mod random;
 pub mod reference;

@@ -59,10 +59,7 @@ impl<F: RealField + Copy> Mul for Point<F> {
 
     #[inline]
     fn mul(self, other: Point<F>) -> Point<F> {
-        Point {
-            re: self.re * other.re - self.im * other.im,
-            im: self.re * other.im + self.im * other.re,
-        }
+        Point { re: self.re * other.re - self.im * other.im, im: self.re * other.im + self.im * other.re }
     }
 }
 
@@ -182,7 +179,11 @@ impl<F: RealField + Copy> SimdValue for Point<F> {
 
     #[inline(always)]
     fn select(self, first: bool, other: Point<F>) -> Point<F> {
-        if first { self } else { other }
+        if first {
+            self
+        } else {
+            other
+        }
     }
 }
 

@@ -3,7 +3,7 @@ use crate::kinds::Kind;
 use nalgebra::linalg::SymmetricTridiagonal;
 use nalgebra::{DMatrix, Dyn, SymmetricEigen};
 use num_traits::Zero;
-use std::panic::{AssertUnwindSafe, catch_unwind};
+use std::panic::{catch_unwind, AssertUnwindSafe};
 
 pub fn matrix<T: Kind>(side: usize, table: &[T]) -> DMatrix<T> {
     DMatrix::from_column_slice(side, side, table)

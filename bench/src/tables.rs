@@ -14,7 +14,7 @@ pub enum Family {
     RepeatedValues,
     /// All entries subnormal, or entries whose squares are.
     Subnormal,
-    /// Entries near the largest number, of which a size may be infinite.
+    /// Entries near the largest number, of which a size may be infinite, and now and then an entry that is no finite number.
     Huge,
     SignedZero,
 }
@@ -63,11 +63,19 @@ impl<T: Kind> Draw<'_, T> {
             Family::Graded => T::unit(self.random, diagonal).scale(below((row + column) as i32)),
             Family::NearlyDiagonal => {
                 let x = T::unit(self.random, diagonal);
-                if diagonal { x } else { x.scale(below(self.random.below(70) as i32)) }
+                if diagonal {
+                    x
+                } else {
+                    x.scale(below(self.random.below(70) as i32))
+                }
             }
             Family::RankOne => {
                 let x = self.column[row] * self.column[column].conjugate();
-                if diagonal { T::from_real(x.real()) } else { x }
+                if diagonal {
+                    T::from_real(x.real())
+                } else {
+                    x
+                }
             }
             Family::RepeatedValues => {
                 let mut x = T::zero();
@@ -86,12 +94,18 @@ impl<T: Kind> Draw<'_, T> {
             Family::Subnormal => {
                 let x = T::unit(self.random, diagonal);
                 let around = least / 2 - 4 + self.random.below(9) as i32;
-                if self.random.chance(30) { x } else { x.scale(T::RealField::power(around)) }
+                if self.random.chance(30) {
+                    x
+                } else {
+                    x.scale(T::RealField::power(around))
+                }
             }
-            Family::Huge => {
-                let k = T::RealField::MOST - if self.second { 0 } else { 2 };
-                T::unit(self.random, diagonal).scale(T::RealField::power(k))
+            Family::Huge if self.second => {
+                // Up to 1.5 times the largest power of two in each part.
+                let x = T::unit(self.random, diagonal).scale(T::RealField::power(T::RealField::MOST));
+                x + x.scale(T::RealField::power(-1))
             }
+            Family::Huge => T::unit(self.random, diagonal).scale(T::RealField::power(T::RealField::MOST - 2)),
             Family::SignedZero => T::signed(self.random, diagonal),
         }
     }
@@ -105,7 +119,7 @@ pub fn table<T: Kind>(family: Family, side: usize, random: &mut Random) -> Vec<T
     let second = random.chance(50);
     let base = T::RealField::power(random.below(5) as i32 - 2);
     let shift = T::RealField::power(random.below(5) as i32 - 2);
-    let mut draw = Draw { random, family, column, group, second, base, shift };
+    let mut draw = Draw { random: &mut *random, family, column, group, second, base, shift };
     let mut cells = vec![T::zero(); side * side];
     for column in 0..side {
         for row in column..side {
@@ -119,9 +133,14 @@ pub fn table<T: Kind>(family: Family, side: usize, random: &mut Random) -> Vec<T
     if family == Family::OwnUpper {
         for column in 1..side {
             for row in 0..column {
-                cells[column * side + row] = T::unit(draw.random, false).scale(T::RealField::power(2));
+                cells[column * side + row] = T::unit(random, false).scale(T::RealField::power(2));
             }
         }
+    }
+    if family == Family::Huge && random.chance(10) {
+        let odd = random.pick(&[T::RealField::infinity(), -T::RealField::infinity(), T::RealField::nan()]);
+        let place = random.below(cells.len() as u64) as usize;
+        cells[place] = T::from_real(odd);
     }
     cells
 }

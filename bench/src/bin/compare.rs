@@ -1,18 +1,19 @@
 //! Compares the library with nalgebra on seeded tables, bit for bit, with every NaN taken as one:
 //!
-//!     compare [--quick] [--threads N]
+//!     compare [--quick] [--seeds N] [--threads N]
 //!     compare --only KIND FAMILY SIDE SEED
-use bench::kinds::{Kind, Real, bits, real_bits};
+use bench::kinds::{bits, real_bits, Kind, Real};
 use bench::library::{Eigen, Form, Library};
 use bench::point::Point;
 use bench::random::Random;
-use bench::reference::{Answer, matrix, reduced, solved};
-use bench::tables::{FAMILIES, Family, demand, not_finite, table};
+use bench::reference::{matrix, reduced, solved, Answer};
+use bench::tables::{demand, not_finite, table, Family, FAMILIES};
+use simba::scalar::ComplexField;
 use std::collections::BTreeMap;
 use std::panic::catch_unwind;
 use std::process::exit;
-use std::sync::Mutex;
 use std::sync::atomic::{AtomicUsize, Ordering};
+use std::sync::Mutex;
 use std::thread;
 use std::time::Instant;
 
@@ -38,6 +39,8 @@ enum End {
 struct Found {
     end: End,
     passes: u32,
+    /// Whether a value or a vector is no finite number.
+    nan: bool,
     differences: Vec<String>,
 }
 
@@ -76,7 +79,7 @@ fn compared<T: Library>(case: Case) -> Found {
         if [reduction, outcome].iter().any(|o| (o.number, o.row, o.column) != (3, row, column)) {
             differences.push(format!("not refused for its entry {row} {column}: {reduction:?} {outcome:?}"));
         }
-        return Found { end: End::Refused, passes: 0, differences };
+        return Found { end: End::Refused, passes: 0, nan: false, differences };
     }
 
     if reduction.number != 0 {
@@ -130,7 +133,8 @@ fn compared<T: Library>(case: Case) -> Found {
     if !differences.is_empty() {
         differences.push(format!("(tolerance {tolerance:?}, limit {limit})"));
     }
-    Found { end, passes: outcome.count, differences }
+    let finite = eigen.values.iter().all(|x| x.is_finite()) && eigen.vectors.iter().all(|x| x.is_finite());
+    Found { end, passes: outcome.count, nan: !finite, differences }
 }
 
 fn run(case: Case) -> Found {
@@ -148,7 +152,7 @@ fn refusals<T: Library>() -> (u32, Vec<String>) {
     let mut tried = 0;
     let mut differences = Vec::new();
     let fine = T::RealField::epsilon();
-    let infinite = T::RealField::power(T::RealField::MOST) * T::RealField::power(1);
+    let infinite = T::RealField::infinity();
     let minus = -T::RealField::power(0);
     let cells = vec![T::one(); 4];
     for (side, table, tolerance, limit, room, number) in [
@@ -160,7 +164,7 @@ fn refusals<T: Library>() -> (u32, Vec<String>) {
         (2, 4, fine, 1, 3, 2),
         (2, 4, minus, 1, 2, 4),
         (2, 4, infinite, 1, 2, 4),
-        (2, 4, infinite - infinite, 1, 2, 4),
+        (2, 4, T::RealField::nan(), 1, 2, 4),
         (2, 4, fine, 0, 2, 5),
         (2, 4, fine, 1_000_001, 2, 5),
         (2, 4, minus, 0, 2, 4),
@@ -187,7 +191,8 @@ fn refusals<T: Library>() -> (u32, Vec<String>) {
     (tried, differences)
 }
 
-fn cases(quick: bool) -> Vec<Case> {
+/// Of each family and side up to 64 as many tables as `seeds`, and of each larger side one.
+fn cases(quick: bool, seeds: u64) -> Vec<Case> {
     let mut cases = Vec::new();
     let mut add = |families: &[Family], sides: &[usize], seeds: u64| {
         for kind in KINDS {
@@ -207,13 +212,13 @@ fn cases(quick: bool) -> Vec<Case> {
         add(&[Family::Dense, Family::RepeatedValues], &[512], 1);
         add(&FAMILIES, &[256, 200, 128, 100], 1);
         let sides: Vec<usize> = (1..=64).collect();
-        add(&FAMILIES, &sides, 5);
+        add(&FAMILIES, &sides, seeds);
     }
     cases
 }
 
 fn usage() -> ! {
-    eprintln!("usage: compare [--quick] [--threads N] | compare --only KIND FAMILY SIDE SEED");
+    eprintln!("usage: compare [--quick] [--seeds N] [--threads N] | compare --only KIND FAMILY SIDE SEED");
     exit(2)
 }
 
@@ -234,7 +239,7 @@ fn main() {
             let family = FAMILIES.into_iter().find(|f| f.name() == family).unwrap_or_else(|| usage());
             vec![Case { kind, family, side: parsed(words.get(i + 3)), seed: parsed(words.get(i + 4)) }]
         }
-        None => cases(at("--quick").is_some()),
+        None => cases(at("--quick").is_some(), at("--seeds").map_or(5, |i| parsed(words.get(i + 1)))),
     };
     let threads = match at("--threads") {
         Some(i) => parsed(words.get(i + 1)),
@@ -246,13 +251,11 @@ fn main() {
     let found: Mutex<Vec<Option<Found>>> = Mutex::new(cases.iter().map(|_| None).collect());
     thread::scope(|scope| {
         for _ in 0..threads {
-            scope.spawn(|| {
-                loop {
-                    let i = next.fetch_add(1, Ordering::Relaxed);
-                    let Some(&case) = cases.get(i) else { break };
-                    let answer = catch_unwind(|| run(case)).ok();
-                    found.lock().expect("no thread panics with the lock")[i] = answer;
-                }
+            scope.spawn(|| loop {
+                let i = next.fetch_add(1, Ordering::Relaxed);
+                let Some(&case) = cases.get(i) else { break };
+                let answer = catch_unwind(|| run(case)).ok();
+                found.lock().expect("no thread panics with the lock")[i] = answer;
             });
         }
     });
@@ -266,6 +269,7 @@ fn main() {
         refused: u32,
         differing: u32,
         passes: u64,
+        nan: u32,
         largest: usize,
     }
     let mut counts: BTreeMap<(usize, usize), Count> = BTreeMap::new();
@@ -273,7 +277,7 @@ fn main() {
     for (case, answer) in cases.iter().zip(found.into_inner().expect("no thread panics with the lock")) {
         let kind = KINDS.iter().position(|k| *k == case.kind).unwrap_or(0);
         let count = counts.entry((kind, case.family as usize)).or_default();
-        let lost = Found { end: End::Refused, passes: 0, differences: vec!["the comparison itself panicked".to_owned()] };
+        let lost = Found { end: End::Refused, passes: 0, nan: false, differences: vec!["the comparison itself panicked".to_owned()] };
         let found = answer.unwrap_or(lost);
         count.tables += 1;
         count.largest = count.largest.max(case.side);
@@ -284,6 +288,7 @@ fn main() {
             End::Refused => count.refused += 1,
         }
         count.passes += u64::from(found.passes);
+        count.nan += u32::from(found.nan);
         if !found.differences.is_empty() {
             count.differing += 1;
             lines.push(format!(
@@ -297,13 +302,13 @@ fn main() {
         }
     }
 
-    println!("| Kind | Family | Tables | Largest side | Settled | Not settled | Pair | Refused | Passes | Differing |");
-    println!("|---|---|---|---|---|---|---|---|---|---|");
+    println!("| Kind | Family | Tables | Largest side | Settled | Not settled | Pair | Refused | Not finite | Passes | Differing |");
+    println!("|---|---|---|---|---|---|---|---|---|---|---|");
     let mut tables = 0;
     let mut differing = 0;
     for ((kind, family), c) in &counts {
         println!(
-            "| {} | {} | {} | {} | {} | {} | {} | {} | {} | {} |",
+            "| {} | {} | {} | {} | {} | {} | {} | {} | {} | {} | {} |",
             KINDS[*kind],
             FAMILIES[*family].name(),
             c.tables,
@@ -312,6 +317,7 @@ fn main() {
             c.not_settled,
             c.pair,
             c.refused,
+            c.nan,
             c.passes,
             c.differing
         );

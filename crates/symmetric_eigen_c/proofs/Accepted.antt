@@ -21,7 +21,8 @@ lengths : {C R : Type 0} (K : Kind C R) (n : ℕ) (t : List C) (values offs sign
     reduce_refusal K n t values offs signs scratch ≡ None → lengths_agree n (length t) values offs signs scratch ≡ true
 unfolding reduce_refusal
 lengths K n t values offs signs scratch none =
-    not_refused (side_refused n) (lengths_agree n (length t) values offs signs scratch) (refused 1 []) (refused 2 []) (entry_refusal K n 0 t) none
+    not_refused (side_refused n) (lengths_agree n (length t) values offs signs scratch) (refused 1 []) (refused 2 [])
+    (entry_refusal K n 0 t) none
 
 agree : (n table signs q : ℕ) → table ≡ n * n → signs ≡ n - 1 → q ≡ n * n → assemble_lengths n table signs q ≡ true
 agree n table signs q et es eq = rw (et, es, eq, eq-eqb (n * n) (n * n) refl, eq-eqb (n - 1) (n - 1) refl)

@@ -6,51 +6,42 @@ ghost use Rattle.symmetric_eigen_c.specs.Outcomes.{told, done_in, memory_wanting
 use crate::outcome::Outcome;
 use fault::Fault;
 
-pub(crate) fn done(passes: u32) -> Outcome
-    ensures { result ≡ done_in passes }
-{
-    Outcome {
-        number: 0,
-        count: passes,
-        row: 0,
-        column: 0,
-    }
-}
-
-pub(crate) fn memory() -> Outcome
-    ensures { result ≡ memory_wanting }
-{
-    Outcome {
-        number: 255,
-        count: 0,
-        row: 0,
-        column: 0,
-    }
-}
-
-fn refused(number: u8, count: u32) -> Outcome
+// What bears no row and column.
+fn bearing(number: u32, count: u32) -> Outcome
     ensures { result ≡ record { number = number; count = count; row = 0; column = 0 } }
 {
     Outcome {
-        number: u32::from(number),
+        number,
         count,
         row: 0,
         column: 0,
     }
 }
 
+pub(crate) fn done(passes: u32) -> Outcome
+    ensures { result ≡ done_in passes }
+{
+    bearing(0, passes)
+}
+
+pub(crate) fn memory() -> Outcome
+    ensures { result ≡ memory_wanting }
+{
+    bearing(255, 0)
+}
+
 pub(crate) fn told(fault: Fault) -> Outcome
     ensures { result ≡ told (refusal fault) }
 {
-    let number = fault.number();
+    let number = u32::from(fault.number());
     match fault {
         Fault::Entry { row, column } => Outcome {
-            number: u32::from(number),
+            number,
             count: 0,
             row,
             column,
         },
-        Fault::NotSettled { count } | Fault::Pair { count } => refused(number, count),
-        _ => refused(number, 0),
+        Fault::NotSettled { count } | Fault::Pair { count } => bearing(number, count),
+        _ => bearing(number, 0),
     }
 }

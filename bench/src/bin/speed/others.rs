@@ -120,21 +120,8 @@ mod gsl {
     pub fn solve(side: usize, table: &[f64], values: &mut [f64], vectors: &mut [f64]) {
         assert!(table.len() == side * side && values.len() == side && vectors.len() == side * side && side > 0);
         let mut cells = table.to_vec();
-        let mut given = Matrix {
-            rows: side,
-            columns: side,
-            line: side,
-            data: cells.as_mut_ptr(),
-            block: std::ptr::null_mut(),
-            owner: 0,
-        };
-        let mut list = Vector {
-            size: side,
-            stride: 1,
-            data: values.as_mut_ptr(),
-            block: std::ptr::null_mut(),
-            owner: 0,
-        };
+        let mut given = Matrix { rows: side, columns: side, line: side, data: cells.as_mut_ptr(), block: std::ptr::null_mut(), owner: 0 };
+        let mut list = Vector { size: side, stride: 1, data: values.as_mut_ptr(), block: std::ptr::null_mut(), owner: 0 };
         let mut found = Matrix { data: vectors.as_mut_ptr(), ..given };
         // SAFETY: the views are of buffers of the lengths that they tell, which outlive the call, and none is owned by GSL.
         unsafe {

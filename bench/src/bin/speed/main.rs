@@ -6,15 +6,17 @@
 //! all of them; a time is the median of the batches, of one run with the copy of its table.
 use bench::kinds::{Kind, Real};
 use bench::library::{Eigen, Form, Library};
-use bench::others::others;
 use bench::point::Point;
 use bench::random::Random;
 use bench::reference::{matrix, reduced};
-use bench::tables::{Family, table};
+use bench::tables::{table, Family};
 use nalgebra::SymmetricEigen;
 use std::any::Any;
 use std::hint::black_box;
 use std::time::{Duration, Instant};
+
+mod others;
+use others::others;
 
 type Contestant<'a> = (&'static str, Box<dyn FnMut() + 'a>);
 
@@ -53,7 +55,15 @@ fn timed(contestants: &mut [Contestant], seconds: f64) -> Vec<(f64, f64)> {
 /// Milliseconds, with three digits or more.
 fn shown(seconds: f64) -> String {
     let ms = seconds * 1e3;
-    let digits = if ms < 0.1 { 4 } else if ms < 1.0 { 3 } else if ms < 10.0 { 2 } else { 1 };
+    let digits = if ms < 0.1 {
+        4
+    } else if ms < 1.0 {
+        3
+    } else if ms < 10.0 {
+        2
+    } else {
+        1
+    };
     format!("{ms:.digits$}")
 }
 
