@@ -158,7 +158,7 @@ pub fn demand<R: Real>(side: usize, random: &mut Random) -> (R, u32) {
     }
     let few = [1, 2, side as u32, 2 * side as u32 + 5];
     let tolerance = match random.below(10) {
-        0 => R::zero(),
+        0 => random.pick(&[R::zero(), -R::zero()]),
         1 => fine * R::power(-10),
         2 => R::power(-10),
         3 => R::power(-1),

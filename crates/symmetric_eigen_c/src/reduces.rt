@@ -1,4 +1,4 @@
-// The exported reductions: a table reduced, with its matrix Q. A slice crosses as a pointer and a length; `heap` takes no bytes.
+// The exported reductions: a table reduced, with its matrix Q. One for each kind, and slices, as in `solves`.
 ghost use Rattle.std.specs.Prelude.{◌≡◌};
 ghost use Rattle.symmetric_eigen_c.specs.Forms.{Crossed, Formed, crossing, crossing_refusal, form_refusal, room};
 ghost use Rattle.symmetric_eigen_c.specs.Kinds.{c32, c64, r32, r64};
@@ -54,7 +54,7 @@ pub extern "C" fn symmetric_eigen_c_reduce_r32(
     reduce_here::<f32>(n, table, values, offs, signs, scratch, q)
 }
 
-// Tables of complex numbers over binary64.
+// Tables of complex numbers over binary64, in copies, with a scratch of its own.
 #[unsafe(no_mangle)]
 pub extern "C" fn symmetric_eigen_c_reduce_c64(
     heap: Global,
@@ -75,7 +75,7 @@ pub extern "C" fn symmetric_eigen_c_reduce_c64(
     reduce_across::<Complex<f64>, Complex64>(heap, n, table, values, offs, signs, q)
 }
 
-// Tables of complex numbers over binary32.
+// Tables of complex numbers over binary32, in copies, with a scratch of its own.
 #[unsafe(no_mangle)]
 pub extern "C" fn symmetric_eigen_c_reduce_c32(
     heap: Global,
