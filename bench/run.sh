@@ -23,6 +23,7 @@ if [ -n "${NALGEBRA_REGISTRY:-}" ]; then
     folder=$(cd "$NALGEBRA_REGISTRY" && pwd)
     set -- --config 'source.crates-io.replace-with="folder"' --config "source.folder.directory=\"$folder\"" -- "$@"
 else
+    echo "run.sh: NALGEBRA_REGISTRY is not set (see fetch.sh): cargo takes what it has kept of its usual registry" >&2
     set -- -- "$@"
 fi
 cd "$here"
