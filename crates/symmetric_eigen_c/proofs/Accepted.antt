@@ -1,0 +1,48 @@
+-- What a reduction leaves is assembled.
+use Rattle.std.proofs.Common.{◌≡◌, ℕ, ◌-◌, ◌*◌, Bool, true, false, cond, eqb, List, [], length, Some, None, Option, refl, ◌∙◌}
+use Rattle.std.proofs.lemmas.Bool.{and_parts, eqb-true, eq-eqb}
+use Rattle.fault.specs.Refusals.{Refusal, refused}
+use Rattle.symmetric_eigen_c.specs.Forms.{q_of}
+use Rattle.tridiagonal.specs.Assemble.{assemble_lengths, assemble_refusal, matrix_q}
+use Rattle.tridiagonal.specs.Checks.{side_refused, lengths_agree, entry_refusal, reduce_refusal}
+use Rattle.tridiagonal.specs.Householder.{Kind}
+use Rattle.tridiagonal.specs.Outcome.{unless_refused}
+use Rattle.tridiagonal.specs.Reduce.{reduced_table, signs_of}
+use Rattle.tridiagonal.specs.Tables.{lower}
+
+not_refused : {A : Type 0} (side long : Bool) (a b : A) (entries : Option A) →
+    cond side (Some a) (cond long entries (Some b)) ≡ None → long ≡ true
+not_refused true long a b entries none = absurd (cc)
+not_refused false false a b entries none = absurd (cc)
+not_refused false true a b entries none = refl
+
+-- where nothing is refused, the lengths are as stated
+lengths : {C R : Type 0} (K : Kind C R) (n : ℕ) (t : List C) (values offs signs scratch : ℕ) →
+    reduce_refusal K n t values offs signs scratch ≡ None → lengths_agree n (length t) values offs signs scratch ≡ true
+unfolding reduce_refusal
+lengths K n t values offs signs scratch none =
+    not_refused (side_refused n) (lengths_agree n (length t) values offs signs scratch) (refused 1 []) (refused 2 [])
+    (entry_refusal K n 0 t) none
+
+agree : (n table signs q : ℕ) → table ≡ n * n → signs ≡ n - 1 → q ≡ n * n → assemble_lengths n table signs q ≡ true
+agree n table signs q et es eq = rw (et, es, eq, eq-eqb (n * n) (n * n) refl, eq-eqb (n - 1) (n - 1) refl)
+
+pub assembled : {C R : Type 0} (K : Kind C R) (n side : ℕ) (t t1 s1 q : List C) (values offs signs scratch : ℕ) →
+    reduce_refusal K n t values offs signs scratch ≡ None → side ≡ n → length t1 ≡ length t → length s1 ≡ signs →
+    length q ≡ n * n → assemble_refusal side t1 s1 q ≡ None
+assembled K n side t t1 s1 q values offs signs scratch none is st ss sq =
+    let a = and_parts (eqb (length t) (n * n)) _ (lengths K n t values offs signs scratch none) in
+    let b = and_parts (eqb values n) _ a.1 in
+    let c = and_parts (eqb offs (n - 1)) _ b.1 in
+    let d = and_parts (eqb signs (n - 1)) _ c.1 in
+    let as_table = st ∙ eqb-true (length t) (n * n) a.0 in
+    let as_signs = ss ∙ eqb-true signs (n - 1) d.0 in
+    let whole = agree n (length t1) (length s1) (length q) as_table as_signs sq in
+    rw (is, whole)
+
+pub unless_none : {A : Type 0} (o : Option Refusal) (was made now : A) → o ≡ None → now ≡ made → now ≡ unless_refused o was made
+unless_none o was made now none is = is ∙ rw none
+
+pub q_made : {C R : Type 0} (K : Kind C R) (n side : ℕ) (t t1 s1 : List C) → side ≡ n → t1 ≡ reduced_table K n t → s1 ≡ signs_of K n t →
+    matrix_q K side (lower side 0 side t1) s1 ≡ q_of K n t
+q_made K n side t t1 s1 is it es = rw (is, it, es)

@@ -1,0 +1,33 @@
+-- What the calls come to. Definitions only.
+use Rattle.std.specs.Prelude.{ℕ, ◌*◌, cond, ◌&&◌, true, List, [], map, ◌==◌}
+use Rattle.fault.specs.Refusals.{refused}
+use Rattle.tridiagonal.specs.Checks.{side_refused}
+use Rattle.tridiagonal.specs.Householder.{Kind}
+use Rattle.decomposition.specs.Solutions.{Solution, solved, failed, starved, solution}
+use Rattle.symmetric_eigen_c.specs.declared.outcome.Outcome.{Outcome}
+use Rattle.symmetric_eigen_c.specs.Outcomes.{done_in, memory_wanting, told}
+
+module _ {C R : Type 0} (K : Kind C R) where
+  -- the solution of a table with its vectors, if there is room for as many values and entries of vectors as the side asks for
+  abbrev pub solution_into : ℕ → List C → R → ℕ → ℕ → ℕ → Solution C R
+  solution_into n table tolerance limit values vectors =
+      cond (side_refused n) (failed (refused 1 []))
+      (cond (values == n && vectors == n * n) (solution K true n table tolerance limit) (failed (refused 2 [])))
+
+module _ {C R : Type 0} where
+  abbrev pub outcome_of : Solution C R → Outcome
+  outcome_of (solved e) = done_in e.passes
+  outcome_of (failed why) = told why
+  outcome_of starved = memory_wanting
+
+  -- the values of a solution, or what was there
+  abbrev pub values_or : Solution C R → List R → List R
+  values_or (solved e) was = e.values
+  values_or (failed why) was = was
+  values_or starved was = was
+
+  -- its vectors as they cross, or what was there
+  abbrev pub vectors_or : {P : Type 0} → (C → P) → Solution C R → List P → List P
+  vectors_or outward (solved e) was = map outward e.vectors
+  vectors_or outward (failed why) was = was
+  vectors_or outward starved was = was
