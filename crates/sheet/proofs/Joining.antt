@@ -1,13 +1,13 @@
 -- A sheet with more bytes behind it.
-use Rattle.std.proofs.Common.{◌≡◌, ℕ, zero, suc, ◌+◌, ◌≤◌, Bool, true, false, cond, leb, ◌⊎◌, List, [], ◌∷◌, ◌++◌, length, take, Some, None, Option, sym, refl, ap, ◌∙◌, inl, inr, ⊎_elim, add-zero, add_assoc, arith, length-append, le-leb, leb-true}
+use Rattle.std.proofs.Common.{◌≡◌, ℕ, zero, suc, ◌+◌, ◌≤◌, Bool, true, false, cond, leb, ◌⊎◌, List, [], ◌∷◌, ◌++◌, map, length, take, Some, None, Option, sym, refl, ap, ◌∙◌, inl, inr, ⊎_elim, add-zero, add_assoc, arith, length-append, le-leb, leb-true}
 use Rattle.std.proofs.lemmas.List.{take-append-le}
 use Rattle.std.proofs.lemmas.Bool.{cases_Bool}
 use Rattle.sheet.specs.declared.command.Code.{Code}
 use Rattle.sheet.specs.Faults.{Why}
 use Rattle.sheet.specs.Commands.{Found, nothing, found, wrong, code_of, coded, operand_bytes, saying, Said}
 use Rattle.sheet.specs.Desk.{State, idle, After, goes, closes, stops, applying}
-use Rattle.sheet.specs.Sheets.{Run, Stop, stop, listing, following, running, run_from, run}
-use Rattle.sheet.specs.Laws.{cut_off, Final, later, Joins}
+use Rattle.sheet.specs.Sheets.{Run, Stop, stop, before, closed_at, following, running, run_from, run}
+use Rattle.sheet.specs.Laws.{cut_off, Final, later, closed_later, Joins}
 
 -- A command is the same with more bytes behind it, unless it is cut off.
 longer : (o : Option Code) (rest t : List ℕ) → (coded o rest ≡ wrong cut_off) ⊎ (coded o (rest ++ t) ≡ coded o rest)
@@ -50,7 +50,7 @@ within (Some c) rest =
 followed : (on on' : State → Run) (place : ℕ) (a : After) (x : Stop) → (following on place a).refusal ≡ Some x →
     ((st : State) → (on st).refusal ≡ Some x → on' st ≡ on st) → following on' place a ≡ following on place a
 followed on on' place (goes st) x e f = f st e
-followed on on' place (closes t) x e f = ap (listing t) (f idle e)
+followed on on' place (closes t) x e f = ap (before (closed_at t place)) (f idle e)
 followed on on' place (stops w st) x e f = refl
 
 ran : (on on' : ℕ → State → Run) (place : ℕ) (st : State) (f : Found) (x : Stop) → (running on place st f).refusal ≡ Some x →
@@ -88,7 +88,7 @@ followed_on : (on on' : State → Run) (go : State → Run) (place : ℕ) (a : A
     ((st : State) → (on st).refusal ≡ None → on' st ≡ and_then (on st) (go (on st).desk)) →
     following on' place a ≡ and_then (following on place a) (go (following on place a).desk)
 followed_on on on' go place (goes st) e f = f st e
-followed_on on on' go place (closes t) e f = ap (listing t) (f idle e)
+followed_on on on' go place (closes t) e f = ap (before (closed_at t place)) (f idle e)
 followed_on on on' go place (stops w st) e f = absurd (cc)
 
 ran_on : (on on' : ℕ → State → Run) (go : State → Run) (len place : ℕ) (st : State) (f : Found) → Within len f →
@@ -122,14 +122,14 @@ join_from (b ∷ bs) t zero p st l e =
     ap (λ i. and_then (run_from n (p + 1) st bs) (run_from 0 i (run_from n (p + 1) st bs).desk t)) (next_byte p bs)))
     (longer (code_of b) bs t)
 
--- A run that starts later by k is refused later by k.
+-- A run that starts later by k closes its tables and is refused later by k.
 abbrev shift : ℕ → Run → Run
-shift k r = record { tables = r.tables; desk = r.desk; refusal = later k r.refusal }
+shift k r = record { tables = map (closed_later k) r.tables; desk = r.desk; refusal = later k r.refusal }
 
 followed_late : (k : ℕ) (on on' : State → Run) (place : ℕ) (a : After) → ((st : State) → on' st ≡ shift k (on st)) →
     following on' (k + place) a ≡ shift k (following on place a)
 followed_late k on on' place (goes st) f = f st
-followed_late k on on' place (closes t) f = ap (listing t) (f idle)
+followed_late k on on' place (closes t) f = ap (before (closed_at t (k + place))) (f idle)
 followed_late k on on' place (stops w st) f = refl
 
 ran_late : (k : ℕ) (on on' : ℕ → State → Run) (place : ℕ) (st : State) (f : Found) → ((n : ℕ) (st : State) → on' n st ≡ shift k (on n st)) →

@@ -1,6 +1,5 @@
 pub mod Desks
 pub mod Gathering
-pub mod Hexadecimal
 pub mod Joining
 pub mod LittleEndian
 pub mod Runs

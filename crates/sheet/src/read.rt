@@ -1,7 +1,7 @@
 // Reading a sheet, table by table.
 ghost use Rattle.std.specs.Prelude.{◌≡◌, drop};
 ghost use Rattle.sheet.specs.Desk.{idle};
-ghost use Rattle.sheet.specs.Laws.{OneByOne, gathered_reading};
+ghost use Rattle.sheet.specs.Laws.{Final, Gathers, Joins, OneByOne, gathered_reading};
 ghost use Rattle.sheet.specs.Readings.{had_room, reading_of};
 ghost use Rattle.sheet.specs.Sheets.{table_from};
 
@@ -12,13 +12,25 @@ use crate::sheet_fault::Refusal;
 use std::alloc::Global;
 
 // The next table that the sheet closes from `place` on. A table still open at the sheet's end is none.
-#[tactic(auto, using(crate::proofs::Runs::table_first, crate::proofs::Gathering::closed_gathered))]
+#[tactic(auto, using(
+    crate::proofs::Runs::table_first,
+    crate::proofs::Gathering::closed_gathered,
+    crate::proofs::Gathering::gathers,
+    crate::proofs::Joining::unread,
+    crate::proofs::Joining::joins,
+))]
 pub fn next_table(heap: Global, sheet: &[u8], place: usize) -> Result<Option<Reading>, Refusal>
     ensures reading { reading_of result ≡ table_from (had_room (reading_of result)) 0 place idle (drop place sheet.now) }
     // the largest size gathered for the table is that of the whole table
     ensures gathered { gathered_reading (reading_of result) }
-    // a whole sheet lists its tables one by one
+    // a whole sheet closes its tables one by one
     ensures one_by_one { OneByOne sheet.now place }
+    // the largest size gathered for each table that a whole sheet closes is that of the whole table
+    ensures gathers { Gathers sheet.now }
+    // what follows a refused command does not matter
+    ensures unread { Final sheet.now }
+    // a sheet behind one that closes all its tables is read after it
+    ensures joins { Joins sheet.now }
 {
     let mut desk = Desk { table: None };
     // a place, and no iterator of commands: `next_command` reads at any place, and a refusal tells it
@@ -32,6 +44,7 @@ pub fn next_table(heap: Global, sheet: &[u8], place: usize) -> Result<Option<Rea
             }
             Ok(Applied::Closes(table)) => return Ok(Some(Reading {
                 table,
+                place: at,
                 after: next.after,
             })),
             Err(stopped) => return Err(stopped.fault.at(at)),
