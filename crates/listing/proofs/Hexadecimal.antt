@@ -4,7 +4,7 @@ use Rattle.std.proofs.lemmas.Bool.{eqb-true, eqb-false}
 use Rattle.std.proofs.lemmas.List.{append-nil, replicate_more}
 use Rattle.std.proofs.Math.Nat.{pow-suc}
 use Rattle.std.specs.Fmt.{digits, digits_onto, padded_integral, format_spec, char_count}
-use Rattle.sheet.specs.Text.{hex_digit, hex_digits}
+use Rattle.listing.specs.Text.{hex_digit, hex_digits}
 
 -- `ds` is the last `count` digits of `n` before `acc`, but for the zeros that stand first.
 record Front (count n : ℕ) (acc ds : List ℕ) : Type 0 where

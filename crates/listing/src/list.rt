@@ -1,58 +1,51 @@
 // Listing a whole sheet.
 ghost use Rattle.std.specs.Prelude.{◌≡◌, IfOk, IsOkUnless};
-ghost use Rattle.sheet.specs.Desk.{table_of};
-ghost use Rattle.sheet.specs.Laws.{Final, Gathers, Joins};
-ghost use Rattle.sheet.specs.Listings.{headed, heading_of, listed, listing_of};
-ghost use Rattle.sheet.specs.Sheets.{run};
+ghost use Rattle.sheet.specs.Laws.{Gathers};
 ghost use Rattle.sheet.specs.declared.sheet_fault.SheetFault.TheVariants.{Memory};
+ghost use Rattle.listing.specs.Laws.{Joins, Reduces, Unread};
+ghost use Rattle.listing.specs.Listings.{lines as listed_lines, listed, listing_of};
+ghost use Rattle.listing.specs.Steps.{Steps};
 
-use crate::desk::Closed;
 use crate::listing::Listing;
-use crate::read::next_table;
-use crate::sheet_fault::{Refusal, SheetFault};
-use crate::text::Heading;
+use crate::solve::table_lines;
+use crate::step::Step;
 use fault::Fault;
+use sheet::{Refusal, SheetFault, next_table};
 use std::alloc::Global;
-use std::num::f64_to_bits_with_nan;
 
 // How many bytes a sheet can have.
 const LONGEST: usize = 32_768;
 
-impl Closed {
-    pub fn heading(&self) -> Heading
-        ensures heading { result ≡ heading_of (table_of self.now) }
-    {
-        Heading {
-            kind: self.table.kind().into(),
-            side: self.table.side(),
-            largest: f64_to_bits_with_nan(self.table.largest()),
-        }
-    }
-}
-
-// Takes the table, so that it is dropped here: in the loop each kind of table would be a case of the proof.
-fn heading_of(table: Closed) -> Heading
-    ensures heading { result ≡ heading_of (table_of table) }
+// The next table that the sheet closes from `place` on, solved.
+fn next_lines(heap: Global, sheet: &[u8], place: usize) -> Result<Option<Step>, Refusal>
+    ensures step { Steps sheet.now place result }
 {
-    table.heading()
+    let Some(reading) = next_table(heap, sheet, place)? else {
+        return Ok(None);
+    };
+    let lines = table_lines(heap, &reading.table).map_err(|fault| fault.at(reading.place))?;
+    Ok(Some(Step {
+        lines,
+        after: reading.after,
+    }))
 }
 
-// The listing of a sheet that is short enough.
+// The listing of a sheet that is short enough: each closed table is solved before the next is read.
 fn list_tables(heap: Global, sheet: &[u8]) -> Result<Listing, SheetFault>
-    ensures listing { IfOk result (λ l. listing_of l ≡ headed (run sheet.now)) }
+    ensures listing { IfOk result (λ l. listing_of l ≡ listed_lines sheet.now) }
     ensures memory { IsOkUnless result Memory }
 {
-    let mut headings = Vec::new(heap);
+    let mut lines = Vec::new(heap);
     // a place, and no iterator of tables: `next_table` reads on from any place, as its clause `one_by_one` says
     let mut place = 0;
     'tables: loop {
-        match next_table(heap, sheet, place) {
-            Ok(Some(reading)) => {
-                headings.push(heading_of(reading.table))?;
-                place = reading.after;
+        match next_lines(heap, sheet, place) {
+            Ok(Some(step)) => {
+                lines.extend_from_slice(&step.lines)?;
+                place = step.after;
             }
             Ok(None) => return Ok(Listing {
-                headings,
+                lines,
                 refusal: None,
             }),
             Err(
@@ -62,7 +55,7 @@ fn list_tables(heap: Global, sheet: &[u8]) -> Result<Listing, SheetFault>
                 },
             ) => return Err(SheetFault::Memory),
             Err(refusal) => return Ok(Listing {
-                headings,
+                lines,
                 refusal: Some(refusal),
             }),
         }
@@ -70,20 +63,26 @@ fn list_tables(heap: Global, sheet: &[u8]) -> Result<Listing, SheetFault>
 }
 
 // The listing of a sheet. It fails for want of memory alone.
-#[tactic(auto, using(crate::proofs::Gathering::gathers, crate::proofs::Joining::unread, crate::proofs::Joining::joins))]
+#[tactic(auto, using(
+    sheet::proofs::Gathering::gathers,
+    crate::proofs::Sizes::reduces,
+    crate::proofs::Joining::unread,
+    crate::proofs::Joining::joins,
+))]
 pub fn list_sheet(heap: Global, sheet: &[u8]) -> Result<Listing, SheetFault>
     ensures listing { IfOk result (λ l. listing_of l ≡ listed sheet.now) }
     ensures memory { IsOkUnless result Memory }
-    // the largest size gathered for each closed table is that of the whole table
+    // the largest size gathered for each closed table is that of the whole table, and that by which its reduction divides
     ensures gathers { Gathers sheet.now }
+    ensures reduces { Reduces sheet.now }
     // what follows a refused command does not matter
-    ensures unread { Final sheet.now }
-    // a sheet behind one that closes all its tables is listed after it
+    ensures unread { Unread sheet.now }
+    // a sheet behind one that closes all its tables is listed after it, unless one of those is refused
     ensures joins { Joins sheet.now }
 {
     if sheet.len() > LONGEST {
         return Ok(Listing {
-            headings: Vec::new(heap),
+            lines: Vec::new(heap),
             refusal: Some(SheetFault::from(Fault::Length).at(0)),
         });
     }

@@ -1,10 +1,10 @@
 // What a whole sheet lists.
-use crate::sheet_fault::Refusal;
-use crate::text::Heading;
+use crate::line::Line;
+use sheet::Refusal;
 
-// The headings of the closed tables in their order, and the refusal that ends the sheet, if any.
+// The lines of the solved tables in their order, and the refusal that ends the sheet, if any.
 #[derive(Drop)]
 pub struct Listing {
-    pub headings: Vec<Heading>,
+    pub lines: Vec<Line>,
     pub refusal: Option<Refusal>,
 }

@@ -7,7 +7,7 @@ use Rattle.sheet.specs.Faults.{Why}
 use Rattle.sheet.specs.Commands.{Found, nothing, found, wrong, code_of, coded, operand_bytes, saying, Said}
 use Rattle.sheet.specs.Desk.{State, idle, After, goes, closes, stops, applying}
 use Rattle.sheet.specs.Sheets.{Run, Stop, stop, before, closed_at, following, running, run_from, run}
-use Rattle.sheet.specs.Laws.{cut_off, Final, later, closed_later, Joins}
+use Rattle.sheet.specs.Laws.{cut_off, Final, Begins, Kept, later, closed_later, Joins}
 
 -- A command is the same with more bytes behind it, unless it is cut off.
 longer : (o : Option Code) (rest t : List ℕ) → (coded o rest ≡ wrong cut_off) ⊎ (coded o (rest ++ t) ≡ coded o rest)
@@ -79,6 +79,40 @@ final_from (b ∷ bs) t zero p st x e not =
 
 pub unread : (s : List ℕ) → Final s
 unread s t x e not = final_from s t 0 0 idle x e not
+
+-- The tables of a run are closed first, whatever follows.
+kept_after : (on on' : State → Run) (place : ℕ) (a : After) → ((st : State) → Begins (on st) (on' st)) →
+    Begins (following on place a) (following on' place a)
+kept_after on on' place (goes st) f = f st
+kept_after on on' place (closes t) f =
+    record { others = (f idle).others; tables = ap (λ cs. closed_at t place ∷ cs) (f idle).tables }
+kept_after on on' place (stops w st) f = record { others = []; tables = refl }
+
+kept_on : (on on' : ℕ → State → Run) (place : ℕ) (st : State) (f : Found) → ((n : ℕ) (st : State) → Begins (on n st) (on' n st)) →
+    Begins (running on place st f) (running on' place st f)
+kept_on on on' place st nothing h = record { others = []; tables = refl }
+kept_on on on' place st (wrong w) h = record { others = []; tables = refl }
+kept_on on on' place st (found s n) h = kept_after (on n) (on' n) place (applying true st s) (h n)
+
+kept_from : (bs t : List ℕ) (skip p : ℕ) (st : State) → Begins (run_from skip p st bs) (run_from skip p st (bs ++ t))
+unfolding run_from
+kept_from [] t skip p st = record { others = (run_from skip p st t).tables; tables = refl }
+kept_from (b ∷ bs) t (suc skip) p st = kept_from bs t skip (p + 1) st
+kept_from (b ∷ bs) t zero p st =
+    ⊎_elim
+    (λ cut. record {
+      others = (run_from 0 p st (b ∷ (bs ++ t))).tables;
+      tables =
+          ap (λ cs. cs ++ (run_from 0 p st (b ∷ (bs ++ t))).tables)
+          (sym (ap (λ f. (running (λ n st. run_from n (p + 1) st bs) p st f).tables) cut));
+    })
+    (λ same. rw same
+    (kept_on (λ n st. run_from n (p + 1) st bs) (λ n st. run_from n (p + 1) st (bs ++ t)) p st (coded (code_of b) bs)
+    (λ n st. kept_from bs t n (p + 1) st)))
+    (longer (code_of b) bs t)
+
+pub kept : (s : List ℕ) → Kept s
+kept s t = kept_from s t 0 0 idle
 
 -- One run and then another.
 abbrev and_then : Run → Run → Run

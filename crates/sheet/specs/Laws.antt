@@ -34,6 +34,14 @@ cut_off = rule (refused 11 [])
 abbrev pub Final : List ℕ → Type 0
 Final s = (t : List ℕ) (x : Stop) → (run s).refusal ≡ Some x → (x.why ≢ cut_off) → run (s ++ t) ≡ run s
 
+-- Whatever follows a sheet, its tables are the first of the longer one.
+pub record Begins (r whole : Run) : Type 0 where
+  pub others : List Closing
+  pub tables : whole.tables ≡ r.tables ++ others
+
+abbrev pub Kept : List ℕ → Type 0
+Kept s = (t : List ℕ) → Begins (run s) (run (s ++ t))
+
 -- A sheet that closes all its tables, and a second one behind it: the first's tables and then the second's, whose closing
 -- commands and refusal stand later by the first's length.
 pub record ClosesAll (r : Run) : Type 0 where

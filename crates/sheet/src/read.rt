@@ -1,7 +1,7 @@
 // Reading a sheet, table by table.
 ghost use Rattle.std.specs.Prelude.{◌≡◌, drop};
 ghost use Rattle.sheet.specs.Desk.{idle};
-ghost use Rattle.sheet.specs.Laws.{Final, Gathers, Joins, OneByOne, gathered_reading};
+ghost use Rattle.sheet.specs.Laws.{Final, Gathers, Joins, Kept, OneByOne, gathered_reading};
 ghost use Rattle.sheet.specs.Readings.{had_room, reading_of};
 ghost use Rattle.sheet.specs.Sheets.{table_from};
 
@@ -17,6 +17,7 @@ use std::alloc::Global;
     crate::proofs::Gathering::closed_gathered,
     crate::proofs::Gathering::gathers,
     crate::proofs::Joining::unread,
+    crate::proofs::Joining::kept,
     crate::proofs::Joining::joins,
 ))]
 pub fn next_table(heap: Global, sheet: &[u8], place: usize) -> Result<Option<Reading>, Refusal>
@@ -29,6 +30,8 @@ pub fn next_table(heap: Global, sheet: &[u8], place: usize) -> Result<Option<Rea
     ensures gathers { Gathers sheet.now }
     // what follows a refused command does not matter
     ensures unread { Final sheet.now }
+    // nor what follows a closed table
+    ensures kept { Kept sheet.now }
     // a sheet behind one that closes all its tables is read after it
     ensures joins { Joins sheet.now }
 {

@@ -1,0 +1,4 @@
+pub mod Hexadecimal
+pub mod Joining
+pub mod Sizes
+pub mod Tables
