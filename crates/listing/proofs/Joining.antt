@@ -1,6 +1,6 @@
 -- A listing with more bytes behind its sheet.
 use Rattle.std.proofs.Common.{◌≡◌, ℕ, ◌+◌, ◌⊎◌, List, [], ◌∷◌, ◌++◌, map, length, Some, None, Option, inl, inr, ⊎_elim, sym, refl, ap, ◌∙◌, append_assoc}
-use Rattle.sheet.specs.Laws.{read_of, cut_off, closed_later, later}
+use Rattle.sheet.specs.Laws.{read_of, closed_later, later}
 use Rattle.sheet.specs.Sheets.{Closing, Stop, run}
 use Rattle.sheet.proofs.Joining as sheets
 use Rattle.listing.specs.Laws.{Joins, Unread, behind, unless_ended}

@@ -1,5 +1,5 @@
 -- One table of a listing, and what is listed from the place after it.
-use Rattle.std.proofs.Common.{◌≡◌, ℕ, ◌-◌, ◌<◌, true, List, length, drop, Ok, Err, Result, sym, refl, ap, ◌∙◌}
+use Rattle.std.proofs.Common.{◌≡◌, ℕ, ◌-◌, ◌<◌, true, List, length, drop, Ok, Err, Result, sym, ap, ◌∙◌}
 use Rattle.std.specs.Result.{MatchResult, is_ok}
 use Rattle.sheet.specs.Desk.{Table, idle}
 use Rattle.sheet.specs.Laws.{OneByOne, from, going_on}

@@ -63,12 +63,7 @@ fn list_tables(heap: Global, sheet: &[u8]) -> Result<Listing, SheetFault>
 }
 
 // The listing of a sheet. It fails for want of memory alone.
-#[tactic(auto, using(
-    sheet::proofs::Gathering::gathers,
-    crate::proofs::Sizes::reduces,
-    crate::proofs::Joining::unread,
-    crate::proofs::Joining::joins,
-))]
+#[tactic(auto, using(sheet::proofs::Gathering::gathers, crate::proofs::Sizes::reduces, crate::proofs::Joining::unread, crate::proofs::Joining::joins,))]
 pub fn list_sheet(heap: Global, sheet: &[u8]) -> Result<Listing, SheetFault>
     ensures listing { IfOk result (λ l. listing_of l ≡ listed sheet.now) }
     ensures memory { IsOkUnless result Memory }

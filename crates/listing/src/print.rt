@@ -31,8 +31,8 @@ fn write_refusal<W: fmt::Write>(refusal: Option<Refusal>, f: &mut fmt::Formatter
     let Some(number) = fault.number() else {
         return Ok(());
     };
-    let line = Refused { number, place };
-    writeln!(f, "{line}")
+    let refused = Refused { number, place };
+    writeln!(f, "{refused}")
 }
 
 impl fmt::Display for Listing {

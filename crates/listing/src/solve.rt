@@ -72,21 +72,12 @@ fn solve<T: Shown>(heap: Global, asked: Asked, job: &Job<T>) -> Result<Solved<T>
         (solution_of_typed (kind T.ops reals real_rules) asked (typed job.now)) }
 {
     let table = job.table(heap)?;
+    let side = job.side();
+    let tolerance = job.tolerance();
+    let limit = job.limit();
     match asked {
-        Asked::Values => symmetric_eigenvalues(
-            heap,
-            job.side(),
-            table,
-            job.tolerance(),
-            job.limit(),
-        ),
-        Asked::Vectors => symmetric_eigen(
-            heap,
-            job.side(),
-            table,
-            job.tolerance(),
-            job.limit(),
-        ),
+        Asked::Values => symmetric_eigenvalues(heap, side, table, tolerance, limit),
+        Asked::Vectors => symmetric_eigen(heap, side, table, tolerance, limit),
     }
 }
 
@@ -100,11 +91,7 @@ fn fault_of(failure: Failure) -> SheetFault
     }
 }
 
-fn typed_lines<T: Shown>(
-    heap: Global,
-    asked: Asked,
-    job: &Job<T>,
-) -> Result<Vec<Line>, SheetFault>
+fn typed_lines<T: Shown>(heap: Global, asked: Asked, job: &Job<T>) -> Result<Vec<Line>, SheetFault>
     ensures made { made_of result ≡ given_room (had_room (made_of result))
         (made_of_typed T.shown (kind T.ops reals real_rules) asked (typed job.now)) }
 {

@@ -25,7 +25,10 @@ impl fmt::Display for Line {
                 passes,
             } => {
                 let kind = u8::from(kind);
-                write!(f, "kind {kind} side {side} largest {largest:016X} passes {passes}")
+                write!(
+                    f,
+                    "kind {kind} side {side} largest {largest:016X} passes {passes}"
+                )
             }
             Line::Value { index, bits } => write!(f, "value {index} {bits:016X}"),
             Line::Entry { row, column, bits } => write!(f, "row {row} column {column} {bits:016X}"),
