@@ -3,7 +3,7 @@ use Rattle.std.proofs.Common.{◌≡◌, ℕ, ◌+◌, ◌⊎◌, List, [], ◌�
 use Rattle.sheet.specs.Laws.{read_of, closed_later, later}
 use Rattle.sheet.specs.Sheets.{Closing, Stop, run}
 use Rattle.sheet.proofs.Joining as sheets
-use Rattle.listing.specs.Laws.{Joins, Unread, behind, unless_ended}
+use Rattle.listing.specs.Laws.{ListsBehind, Unlisted, behind, unless_ended}
 use Rattle.listing.specs.Listings.{Listed, Made, lists, fails, in_turn, lines, onward, solved_read, made_of_table}
 
 -- A table that is refused ends a listing, whatever follows.
@@ -28,8 +28,8 @@ ended_behind [] x e = refl
 ended_behind (c ∷ cs) x e =
     one_behind c.place (made_of_table c.table) (in_turn cs None) (in_turn cs x) x (ended_behind cs x) e
 
-pub unread : (s : List ℕ) → Unread s
-unread s t x e not =
+pub unlisted : (s : List ℕ) → Unlisted s
+unlisted s t x e not =
     let k = sheets.kept s t in
     ⊎_elim
     (λ solved. ap (λ r. solved_read (read_of r))
@@ -68,8 +68,8 @@ joined_in_turn (c ∷ cs) ds n x =
     ap (onward c.place (made_of_table c.table)) (joined_in_turn cs ds n x) ∙
     onward_then c.place n (made_of_table c.table) (in_turn cs None) (in_turn ds x)
 
-pub joins : (s : List ℕ) → Joins s
-joins s t all =
+pub lists_behind : (s : List ℕ) → ListsBehind s
+lists_behind s t all =
     ap (λ r. solved_read (read_of r)) (sheets.joins s t all) ∙
     joined_in_turn (run s).tables (run t).tables (length s) (run t).refusal ∙
     ap (λ x. behind (in_turn (run s).tables x) (length s) (lines t)) (sym all.unrefused)

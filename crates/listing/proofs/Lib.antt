@@ -2,3 +2,4 @@ pub mod Hexadecimal
 pub mod Joining
 pub mod Sizes
 pub mod Tables
+pub mod Vectors

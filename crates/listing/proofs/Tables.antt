@@ -1,6 +1,5 @@
 -- One table of a listing, and what is listed from the place after it.
-use Rattle.std.proofs.Common.{◌≡◌, ℕ, ◌-◌, ◌<◌, true, List, length, drop, Ok, Err, Result, sym, ap, ◌∙◌}
-use Rattle.std.specs.Result.{MatchResult, is_ok}
+use Rattle.std.proofs.Common.{◌≡◌, ℕ, ◌-◌, ◌<◌, true, List, length, drop, sym, ap, ◌∙◌}
 use Rattle.sheet.specs.Desk.{Table, idle}
 use Rattle.sheet.specs.Laws.{OneByOne, from, going_on}
 use Rattle.sheet.specs.Sheets.{Reading, closed, table_from}
@@ -19,9 +18,3 @@ pub added : (s : List ℕ) (p place after : ℕ) (t : Table) (ls : List Line) �
     (lines_from s p ≡ before ls (lines_from s after)) × (length s - after < length s - p)
 added s p place after t ls one e m =
     (next_read s p (closed t place after) one e ∙ ap (λ x. onward place x (lines_from s after)) (sym m), fewer true s p place after t e)
-
--- an answer behind `map_err`
-pub unmapped : {A E D : Type 0} (P : E → Type 0) (r : Result A E) (q : Result A D) (x : A) → MatchResult r (λ y. q ≡ Ok y) P →
-    is_ok q ≡ is_ok r → q ≡ Ok x → r ≡ Ok x
-unmapped P (Ok y) q x h v e = let same : y ≡ x = cc in ap Ok same
-unmapped P (Err e) q x h v f = absurd (cc)

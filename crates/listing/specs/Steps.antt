@@ -6,7 +6,16 @@ use Rattle.sheet.specs.Laws.{from}
 use Rattle.sheet.specs.Sheets.{stop}
 use Rattle.listing.specs.declared.line.Line.{Line}
 use Rattle.listing.specs.declared.step.Step.{Step}
-use Rattle.listing.specs.Listings.{Listed, solved_read}
+use Rattle.listing.specs.Listings.{Listed, Made, lists, fails, solved_read}
+
+-- What becomes of a table by the place of the command that closed it and the place after that. Want of memory leaves it open.
+abbrev pub MakesNot : Made → ℕ → Refusal → Why → Type 0
+MakesNot m place r (rule known) = (fails (rule known) ≡ m) × (r.place ≡ place)
+MakesNot m place r memory = Unit {0}
+
+abbrev pub Makes : Made → ℕ → ℕ → Result Step Refusal → Type 0
+Makes m place after (Ok x) = (lists (vec_items x.lines) ≡ m) × (x.after ≡ after)
+Makes m place after (Err r) = MakesNot m place r (why r.fault)
 
 -- what is listed from a place on where no table is open
 abbrev pub lines_from : List ℕ → ℕ → Listed
