@@ -3,3 +3,4 @@ pub mod Joining
 pub mod Sizes
 pub mod Tables
 pub mod Vectors
+pub mod Whole

@@ -41,7 +41,8 @@ module _ {C R : Type 0} (K : Kind C R) (n : ℕ) (t : List C) (tolerance : R) (l
 
 module _ {C : Type 0} (S : ShownAs C) where
   more_lines : (heading : ℕ → Line) (side : ℕ) (p q : ℕ) (vs ws : List Float) (es fs : List C) → p ≡ q → vs ≡ ws → fs ≡ [] →
-      heading p ∷ (value_lines vs ++ entry_lines S side es) ≡ (heading q ∷ (value_lines ws ++ entry_lines S side fs)) ++ entry_lines S side es
+      heading p ∷ (value_lines vs ++ entry_lines S side es) ≡
+      (heading q ∷ (value_lines ws ++ entry_lines S side fs)) ++ entry_lines S side es
   more_lines heading side p q vs ws es fs same alike none =
       let bare : value_lines ws ++ entry_lines S side fs ≡ value_lines ws =
       ap (λ xs. value_lines ws ++ entry_lines S side xs) none ∙ append-nil (value_lines ws) in

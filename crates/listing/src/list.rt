@@ -71,7 +71,7 @@ fn list_tables(heap: Global, sheet: &[u8]) -> Result<Listing, SheetFault>
 }
 
 // The listing of a sheet. It fails for want of memory alone.
-#[tactic(auto, using(sheet::proofs::Gathering::gathers, sheet::proofs::Joining::unread, sheet::proofs::Joining::joins, crate::proofs::Sizes::reduces, crate::proofs::Vectors::adds_rows, crate::proofs::Joining::unlisted, crate::proofs::Joining::lists_behind,))]
+#[tactic(auto, using(crate::proofs::Whole::list_sheet_laws))]
 pub fn list_sheet(heap: Global, sheet: &[u8]) -> Result<Listing, SheetFault>
     ensures listing { IfOk result (λ l. listing_of l ≡ listed sheet.now) }
     ensures memory { IsOkUnless result Memory }

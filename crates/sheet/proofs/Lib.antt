@@ -4,3 +4,4 @@ pub mod Joining
 pub mod LittleEndian
 pub mod Runs
 pub mod TableSteps
+pub mod Whole

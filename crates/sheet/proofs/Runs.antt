@@ -72,7 +72,8 @@ advances room (b ∷ bs) zero p place after st t e =
     read_on (λ n st. table_from room n (p + 1) st bs) room p place after st t (coded (code_of b) bs) e
     (λ n st f. omega (arith, advances room bs n (p + 1) place after st t f))
 
-nowhere : (room : Bool) (s : List ℕ) (p place after : ℕ) (t : Table) → closed t place after ≡ table_from room 0 p idle (drop p s) → length s ≤ p → ⊥
+nowhere : (room : Bool) (s : List ℕ) (p place after : ℕ) (t : Table) →
+    closed t place after ≡ table_from room 0 p idle (drop p s) → length s ≤ p → ⊥
 unfolding table_from
 nowhere room s p place after t e out =
     let f : closed t place after ≡ ended = e ∙ ap (table_from room 0 p idle) (drop_all p s out) in
@@ -82,5 +83,6 @@ nowhere room s p place after t e out =
 pub fewer : (room : Bool) (s : List ℕ) (p place after : ℕ) (t : Table) → closed t place after ≡ table_from room 0 p idle (drop p s) →
     length s - after < length s - p
 fewer room s p place after t e =
-    ⊎_elim (λ inside. omega (arith, advances room (drop p s) 0 p place after idle t e)) (λ out. absurd (nowhere room s p place after t e out))
+    ⊎_elim (λ inside. omega (arith, advances room (drop p s) 0 p place after idle t e))
+    (λ out. absurd (nowhere room s p place after t e out))
     (cases_lt p (length s))

@@ -12,7 +12,7 @@ use crate::sheet_fault::Refusal;
 use std::alloc::Global;
 
 // The next table that the sheet closes from `place` on. A table still open at the sheet's end is none.
-#[tactic(auto, using(crate::proofs::Runs::table_first, crate::proofs::Gathering::closed_gathered, crate::proofs::Gathering::gathers, crate::proofs::Joining::unread, crate::proofs::Joining::kept, crate::proofs::Joining::joins,))]
+#[tactic(auto, using(crate::proofs::Whole::next_table_laws))]
 pub fn next_table(heap: Global, sheet: &[u8], place: usize) -> Result<Option<Reading>, Refusal>
     ensures reading { reading_of result ≡ table_from (had_room (reading_of result)) 0 place idle (drop place sheet.now) }
     // the largest size gathered for the table is that of the whole table
