@@ -38,11 +38,7 @@ pub fn next_table(heap: Global, sheet: &[u8], place: usize) -> Result<Option<Rea
                 desk = still;
                 at = next.after;
             }
-            Ok(Applied::Closes(table)) => return Ok(Some(Reading {
-                table,
-                place: at,
-                after: next.after,
-            })),
+            Ok(Applied::Closes(table)) => return Ok(Some(Reading::new(table, at, next.after))),
             Err(stopped) => return Err(stopped.fault.at(at)),
         }
     }

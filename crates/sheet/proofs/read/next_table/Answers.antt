@@ -18,8 +18,10 @@ commands-preserved c =
 
 pub returns-in-Ok-Closes-clause-reading : goal.returns-in-Ok-Closes-clause-reading
 returns-in-Ok-Closes-clause-reading c =
-    at_close _ _ _ _ c.commands.invariant _ _ _ _ (rw c.in-Some.is at c.in_ok-next.ensures.decoded)
-    (rw c.in-Ok-Closes.field-0-is at c.in-Ok-Closes.ensures.outcome)
+    let made = c.new.ensures.reading in
+    rw (made.0, made.1, made.2)
+    (at_close _ _ _ _ c.commands.invariant _ _ _ _ (rw c.in-Some.is at c.in_ok-next.ensures.decoded)
+    (rw c.in-Ok-Closes.field-0-is at c.in-Ok-Closes.ensures.outcome))
 
 pub returns-in-Err-clause-reading : goal.returns-in-Err-clause-reading
 returns-in-Err-clause-reading c =
