@@ -2,18 +2,21 @@
 """A model of the sheet format (docs/SHEETS.md), written apart from the code, and the sheets of the tests.
 
     sheets.py list                  the sheets, a line of hexadecimal digits each
-    sheets.py one HEX               the listing of one sheet, with a star for each field that solving gives
+    sheets.py one HEX               the listing of one sheet, with # for passes and * for each number that solving gives
     sheets.py expect < LISTINGS     the listings of all sheets, a line each with a bar for each newline
 
 LISTINGS are those that a program over nalgebra itself writes (docs/COMPARISON.md), in the form that `expect` writes. `expect` holds
-each against the model, field by field: what the sheet's reader says must be the model's, and where the model has a star any number
-may stand, or the refusal of the table that was to be solved. It writes what passed, and ends at what does not.
+each against the model, field by field: what is read of the sheet must be the model's, and where the model has a mark a number of
+that form must stand; in place of a table the refusal may stand that solving it gives. It writes what passed, and ends at what
+does not.
 """
 import math
 import random
+import re
 import struct
 import sys
 
+MARKS = {"#": "[0-9]+", "*": "[0-9A-F]{16}"}
 OPERANDS = {1: 3, 2: 12, 3: 20, 4: 8, 5: 4, 6: 0, 7: 0}
 
 
@@ -81,7 +84,7 @@ def command(code, operands, table):
         return dict(table, limit=limit), [], 0
     largest = max([0.0] + [size(parts) for parts in table["cells"].values()])
     side = range(table["side"])
-    lines = ["kind %d side %d largest %s passes *" % (table["kind"], table["side"], bits(largest))]
+    lines = ["kind %d side %d largest %s passes #" % (table["kind"], table["side"], bits(largest))]
     lines += ["value %d *" % i for i in side]
     if code == 7:
         lines += ["row %d column %d *" % (r, c) + " *" * table["kind"] for c in side for r in side]
@@ -129,7 +132,8 @@ def sheets():
         REAL + entry(1, 1, INF), REAL + entry(1, 1, -INF), REAL + entry(1, 1, NAN), OUTLINE + entry(1, 1, NAN, 0.0),
         open_(1, 2) + entry(1, 0, 1e308, 1e308), open_(1, 2) + entry(1, 0, 0.0, NAN), REAL + entry(1, 0, INF),
         REAL + tolerance(-5e-324), REAL + tolerance(-1.0), REAL + tolerance(INF), REAL + tolerance(NAN),
-        REAL + tolerance(0.0) + tolerance(-1.0), REAL + limit(0), REAL + limit(1000001), REAL + limit(0xFFFFFFFF), REAL + limit(9) + limit(0),
+        REAL + tolerance(0.0) + tolerance(-1.0), REAL + limit(0), REAL + limit(1000001), REAL + limit(0xFFFFFFFF),
+        REAL + limit(9) + limit(0),
         REAL + entry(1, 0, 2.0), OUTLINE + entry(1, 0, 2.0, -3.0), open_(0, 1) + entry(0, 0, 0.0) + entry(0, 0, 0.0),
         REAL + tolerance(0.0) + tolerance(0.0), REAL + limit(9) + limit(9),
     ]
@@ -202,11 +206,11 @@ def held(sheet, told):
         if n == len(model):
             return False
         wanted, place = model[n]
-        fields, stars = line.split(), wanted.split()
+        fields, marks = line.split(" "), wanted.split(" ")
         # a table that is not solved lists nothing, and ends the listing
         if wanted.startswith("kind") and line in ("refused 7 at %d" % place, "refused 8 at %d" % place):
             return n + 1 == len(told)
-        if len(fields) != len(stars) or any(s not in ("*", f) for f, s in zip(fields, stars)):
+        if len(fields) != len(marks) or not all(re.fullmatch(MARKS.get(m, m), f) for f, m in zip(fields, marks)):
             return False
     return len(told) == len(model)
 
