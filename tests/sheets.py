@@ -183,6 +183,7 @@ def solved(draw):
     yield table(1, [[0j], [1.5 * 2.0 ** -538 + 0j, 0j], [1 + 0j, 0j, 0j]])
     yield table(0, [[1e308], [-1e308, 1e308], [5e-324, 1e308, -1e308]])
     yield table(0, [[5e-324], [5e-324, 1e-323], [0.0, 5e-324, 0.0]])
+    yield open_(1, 2) + entry(0, 0, 3.0, -0.0) + entry(1, 0, 1e308, -7e307) + tolerance(1e-300) + limit(9) + VECTORS
     # drawn: dense, banded, graded, of few values; both kinds, with values and with vectors
     for n in range(90):
         kind, side = n % 2, 1 + n * 5 % 9
