@@ -2,7 +2,7 @@
 #![tactic(auto)]
 
 use anyhow::anyhow;
-use sheet::list_sheet;
+use listing::list_sheet;
 use std::io::Read;
 
 // One byte more than a sheet can have tells that it is too long.

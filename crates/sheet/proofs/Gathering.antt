@@ -7,24 +7,27 @@ use Rattle.sheet.specs.declared.desk.Table.TheVariants as table
 use Rattle.sheet.specs.Commands.{Found, nothing, found, wrong, code_of, coded}
 use Rattle.sheet.specs.Desk.{State, idle, After, goes, closes, stops, applying, asked_of}
 use Rattle.sheet.specs.Laws.{gathered_table, Gathers}
-use Rattle.sheet.specs.Sheets.{Run, following, running, run_from}
+use Rattle.sheet.specs.Sheets.{Closing, Run, following, running, run_from}
 use Rattle.sheet.proofs.Desks.{OnDesk, Leaves, applied_gathered}
 
+abbrev GatheredAt : Closing → Type 0
+GatheredAt c = gathered_table c.table
+
 followed : (on : State → Run) (place : ℕ) (a : After) → Leaves a →
-    ((st : State) → OnDesk st → AllByRecursion gathered_table (on st).tables) →
-    AllByRecursion gathered_table (following on place a).tables
+    ((st : State) → OnDesk st → AllByRecursion GatheredAt (on st).tables) →
+    AllByRecursion GatheredAt (following on place a).tables
 followed on place (goes st) h f = f st h
 followed on place (closes t) h f = (h, f idle tt)
 followed on place (stops w st) h f = tt
 
 ran : (on : ℕ → State → Run) (place : ℕ) (st : State) (f : Found) → OnDesk st →
-    ((n : ℕ) (st : State) → OnDesk st → AllByRecursion gathered_table (on n st).tables) →
-    AllByRecursion gathered_table (running on place st f).tables
+    ((n : ℕ) (st : State) → OnDesk st → AllByRecursion GatheredAt (on n st).tables) →
+    AllByRecursion GatheredAt (running on place st f).tables
 ran on place st nothing h f = tt
 ran on place st (wrong w) h f = tt
 ran on place st (found s n) h f = followed (on n) place (applying true st s) (applied_gathered true st s h) (f n)
 
-run_gathered : (bs : List ℕ) (skip p : ℕ) (st : State) → OnDesk st → AllByRecursion gathered_table (run_from skip p st bs).tables
+run_gathered : (bs : List ℕ) (skip p : ℕ) (st : State) → OnDesk st → AllByRecursion GatheredAt (run_from skip p st bs).tables
 unfolding run_from
 run_gathered [] skip p st h = tt
 run_gathered (b ∷ bs) (suc skip) p st h = run_gathered bs skip (p + 1) st h

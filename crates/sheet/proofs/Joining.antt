@@ -1,13 +1,13 @@
 -- A sheet with more bytes behind it.
-use Rattle.std.proofs.Common.{◌≡◌, ℕ, zero, suc, ◌+◌, ◌≤◌, Bool, true, false, cond, leb, ◌⊎◌, List, [], ◌∷◌, ◌++◌, length, take, Some, None, Option, sym, refl, ap, ◌∙◌, inl, inr, ⊎_elim, add-zero, add_assoc, arith, length-append, le-leb, leb-true}
+use Rattle.std.proofs.Common.{◌≡◌, ℕ, zero, suc, ◌+◌, ◌≤◌, Bool, true, false, cond, leb, ◌⊎◌, List, [], ◌∷◌, ◌++◌, map, length, take, Some, None, Option, sym, refl, ap, ◌∙◌, inl, inr, ⊎_elim, add-zero, add_assoc, arith, length-append, le-leb, leb-true}
 use Rattle.std.proofs.lemmas.List.{take-append-le}
 use Rattle.std.proofs.lemmas.Bool.{cases_Bool}
 use Rattle.sheet.specs.declared.command.Code.{Code}
 use Rattle.sheet.specs.Faults.{Why}
 use Rattle.sheet.specs.Commands.{Found, nothing, found, wrong, code_of, coded, operand_bytes, saying, Said}
 use Rattle.sheet.specs.Desk.{State, idle, After, goes, closes, stops, applying}
-use Rattle.sheet.specs.Sheets.{Run, Stop, stop, listing, following, running, run_from, run}
-use Rattle.sheet.specs.Laws.{cut_off, Final, later, Joins}
+use Rattle.sheet.specs.Sheets.{Run, Stop, stop, before, closed_at, following, running, run_from, run}
+use Rattle.sheet.specs.Laws.{cut_off, Final, Begins, Kept, later, closed_later, Joins}
 
 -- A command is the same with more bytes behind it, unless it is cut off.
 longer : (o : Option Code) (rest t : List ℕ) → (coded o rest ≡ wrong cut_off) ⊎ (coded o (rest ++ t) ≡ coded o rest)
@@ -50,7 +50,7 @@ within (Some c) rest =
 followed : (on on' : State → Run) (place : ℕ) (a : After) (x : Stop) → (following on place a).refusal ≡ Some x →
     ((st : State) → (on st).refusal ≡ Some x → on' st ≡ on st) → following on' place a ≡ following on place a
 followed on on' place (goes st) x e f = f st e
-followed on on' place (closes t) x e f = ap (listing t) (f idle e)
+followed on on' place (closes t) x e f = ap (before (closed_at t place)) (f idle e)
 followed on on' place (stops w st) x e f = refl
 
 ran : (on on' : ℕ → State → Run) (place : ℕ) (st : State) (f : Found) (x : Stop) → (running on place st f).refusal ≡ Some x →
@@ -80,6 +80,40 @@ final_from (b ∷ bs) t zero p st x e not =
 pub unread : (s : List ℕ) → Final s
 unread s t x e not = final_from s t 0 0 idle x e not
 
+-- The tables of a run are closed first, whatever follows.
+kept_after : (on on' : State → Run) (place : ℕ) (a : After) → ((st : State) → Begins (on st) (on' st)) →
+    Begins (following on place a) (following on' place a)
+kept_after on on' place (goes st) f = f st
+kept_after on on' place (closes t) f =
+    record { others = (f idle).others; tables = ap (λ cs. closed_at t place ∷ cs) (f idle).tables }
+kept_after on on' place (stops w st) f = record { others = []; tables = refl }
+
+kept_on : (on on' : ℕ → State → Run) (place : ℕ) (st : State) (f : Found) → ((n : ℕ) (st : State) → Begins (on n st) (on' n st)) →
+    Begins (running on place st f) (running on' place st f)
+kept_on on on' place st nothing h = record { others = []; tables = refl }
+kept_on on on' place st (wrong w) h = record { others = []; tables = refl }
+kept_on on on' place st (found s n) h = kept_after (on n) (on' n) place (applying true st s) (h n)
+
+kept_from : (bs t : List ℕ) (skip p : ℕ) (st : State) → Begins (run_from skip p st bs) (run_from skip p st (bs ++ t))
+unfolding run_from
+kept_from [] t skip p st = record { others = (run_from skip p st t).tables; tables = refl }
+kept_from (b ∷ bs) t (suc skip) p st = kept_from bs t skip (p + 1) st
+kept_from (b ∷ bs) t zero p st =
+    ⊎_elim
+    (λ cut. record {
+      others = (run_from 0 p st (b ∷ (bs ++ t))).tables;
+      tables =
+          ap (λ cs. cs ++ (run_from 0 p st (b ∷ (bs ++ t))).tables)
+          (sym (ap (λ f. (running (λ n st. run_from n (p + 1) st bs) p st f).tables) cut));
+    })
+    (λ same. rw same
+    (kept_on (λ n st. run_from n (p + 1) st bs) (λ n st. run_from n (p + 1) st (bs ++ t)) p st (coded (code_of b) bs)
+    (λ n st. kept_from bs t n (p + 1) st)))
+    (longer (code_of b) bs t)
+
+pub kept : (s : List ℕ) → Kept s
+kept s t = kept_from s t 0 0 idle
+
 -- One run and then another.
 abbrev and_then : Run → Run → Run
 and_then a b = record { tables = a.tables ++ b.tables; desk = b.desk; refusal = b.refusal }
@@ -88,7 +122,7 @@ followed_on : (on on' : State → Run) (go : State → Run) (place : ℕ) (a : A
     ((st : State) → (on st).refusal ≡ None → on' st ≡ and_then (on st) (go (on st).desk)) →
     following on' place a ≡ and_then (following on place a) (go (following on place a).desk)
 followed_on on on' go place (goes st) e f = f st e
-followed_on on on' go place (closes t) e f = ap (listing t) (f idle e)
+followed_on on on' go place (closes t) e f = ap (before (closed_at t place)) (f idle e)
 followed_on on on' go place (stops w st) e f = absurd (cc)
 
 ran_on : (on on' : ℕ → State → Run) (go : State → Run) (len place : ℕ) (st : State) (f : Found) → Within len f →
@@ -122,14 +156,14 @@ join_from (b ∷ bs) t zero p st l e =
     ap (λ i. and_then (run_from n (p + 1) st bs) (run_from 0 i (run_from n (p + 1) st bs).desk t)) (next_byte p bs)))
     (longer (code_of b) bs t)
 
--- A run that starts later by k is refused later by k.
+-- A run that starts later by k closes its tables and is refused later by k.
 abbrev shift : ℕ → Run → Run
-shift k r = record { tables = r.tables; desk = r.desk; refusal = later k r.refusal }
+shift k r = record { tables = map (closed_later k) r.tables; desk = r.desk; refusal = later k r.refusal }
 
 followed_late : (k : ℕ) (on on' : State → Run) (place : ℕ) (a : After) → ((st : State) → on' st ≡ shift k (on st)) →
     following on' (k + place) a ≡ shift k (following on place a)
 followed_late k on on' place (goes st) f = f st
-followed_late k on on' place (closes t) f = ap (listing t) (f idle)
+followed_late k on on' place (closes t) f = ap (before (closed_at t (k + place))) (f idle)
 followed_late k on on' place (stops w st) f = refl
 
 ran_late : (k : ℕ) (on on' : ℕ → State → Run) (place : ℕ) (st : State) (f : Found) → ((n : ℕ) (st : State) → on' n st ≡ shift k (on n st)) →

@@ -1,7 +1,7 @@
 pub mod Desks
 pub mod Gathering
-pub mod Hexadecimal
 pub mod Joining
 pub mod LittleEndian
 pub mod Runs
 pub mod TableSteps
+pub mod Whole

@@ -126,7 +126,7 @@ module _ (s : List ℕ) (place i : ℕ) (st : State) (r : Reads s place i st) wh
       sym (table_step room s i st (next p w after) e)
 
   pub at_close : (p after : ℕ) (w : Said) (t : Table) → next p w after ≡ at i (decode (drop i s)) → closes t ≡ applying true st w →
-      closed t after ≡ table_from true 0 place idle (drop place s)
+      closed t i after ≡ table_from true 0 place idle (drop place s)
   at_close p after w t e a = answer true p after w (closes t) e a ∙ r.same
 
   pub at_stop : (p after : ℕ) (w : Said) (y : Why) (st' : State) → next p w after ≡ at i (decode (drop i s)) →

@@ -18,8 +18,6 @@ use Rattle.sheet.specs.declared.desk.Closed.{Closed}
 use Rattle.sheet.specs.declared.desk.Applied.{Applied}
 use Rattle.sheet.specs.declared.desk.Applied.TheVariants as applied
 use Rattle.sheet.specs.declared.desk.Stopped.{Stopped}
-use Rattle.sheet.specs.declared.kind.Kind.{Kind}
-use Rattle.sheet.specs.declared.kind.Kind.TheVariants as kind
 use Rattle.sheet.specs.declared.sheet_fault.SheetFault.{SheetFault}
 use Rattle.sheet.specs.Faults.{Why, why, rule, memory}
 use Rattle.sheet.specs.Commands.{Said, opens, entry, outline_entry, tolerance, limit, values, vectors}
@@ -158,19 +156,6 @@ after_of (Err s) = stops (why s.fault) (desk_of s.desk)
 abbrev pub begun : Result Open SheetFault → After
 begun (Ok t) = goes (state_of t)
 begun (Err fault) = stops (why fault) idle
-
--- What an open table is: its kind, its side and the largest size gathered.
-abbrev pub kind_of : Open → Kind
-kind_of (table.Real job) = kind.Real
-kind_of (table.Outline job) = kind.Outline
-
-abbrev pub side_of : Open → ℕ
-side_of (table.Real job) = (typed job).side
-side_of (table.Outline job) = (typed job).side
-
-abbrev pub largest_of : Open → Float
-largest_of (table.Real job) = (typed job).largest
-largest_of (table.Outline job) = (typed job).largest
 
 -- Whether there was memory: only want of it says no.
 abbrev pub room_for : Why → Bool

@@ -4,8 +4,5 @@ pub mod Desk
 pub mod Faults
 pub mod Kinds
 pub mod Laws
-pub mod Lines
-pub mod Listings
 pub mod Readings
 pub mod Sheets
-pub mod Text

@@ -8,7 +8,7 @@ use Rattle.sheet.specs.Sheets.{Reading, ended, closed, broken}
 
 abbrev pub answer_of : Option Answer → Reading
 answer_of None = ended
-answer_of (Some a) = closed (table_of a.table) a.after
+answer_of (Some a) = closed (table_of a.table) a.place a.after
 
 abbrev pub reading_of : Result (Option Answer) Refusal → Reading
 reading_of (Ok o) = answer_of o
@@ -17,5 +17,5 @@ reading_of (Err r) = broken (why r.fault) r.place
 -- Whether there was memory: only want of it says no.
 abbrev pub had_room : Reading → Bool
 had_room ended = true
-had_room (closed t after) = true
+had_room (closed t place after) = true
 had_room (broken w place) = room_for w

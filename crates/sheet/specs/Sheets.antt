@@ -4,15 +4,16 @@ use Rattle.sheet.specs.Faults.{Why}
 use Rattle.sheet.specs.Commands.{Found, nothing, found, wrong, code_of, coded}
 use Rattle.sheet.specs.Desk.{State, idle, Table, After, goes, closes, stops, applying}
 
--- Reading on until a table is closed: the sheet ends first, the table and the place after its last command, or a refusal.
+-- Reading on until a table is closed: the sheet ends first, the table with the place of the command that closed it and the place
+-- after that, or a refusal.
 pub data Reading : Type 0 where
   ended : Reading
-  closed : Table → (after : ℕ) → Reading
+  closed : Table → (place after : ℕ) → Reading
   broken : Why → (place : ℕ) → Reading
 
 abbrev pub turning : (State → Reading) → ℕ → ℕ → After → Reading
 turning on place after (goes st) = on st
-turning on place after (closes t) = closed t after
+turning on place after (closes t) = closed t place after
 turning on place after (stops w st) = broken w place
 
 abbrev pub reading : (ℕ → State → Reading) → Bool → ℕ → State → Found → Reading
@@ -36,24 +37,32 @@ pub record Stop : Type 0 where
 abbrev pub stop : Why → ℕ → Stop
 stop w p = record { why = w; place = p }
 
+-- A closed table, and the place of the command that closed it.
+pub record Closing : Type 0 where
+  pub table : Table
+  pub place : ℕ
+
+abbrev pub closed_at : Table → ℕ → Closing
+closed_at t p = record { table = t; place = p }
+
 -- A whole sheet: the tables that it closes, the desk at its end, and the refusal if there is one.
 pub record Run : Type 0 where
-  pub tables : List Table
+  pub tables : List Closing
   pub desk : State
   pub refusal : Option Stop
 
 abbrev pub rests : State → Run
 rests st = record { tables = []; desk = st; refusal = None }
 
-abbrev pub listing : Table → Run → Run
-listing t r = record { tables = t ∷ r.tables; desk = r.desk; refusal = r.refusal }
+abbrev pub before : Closing → Run → Run
+before c r = record { tables = c ∷ r.tables; desk = r.desk; refusal = r.refusal }
 
 abbrev pub halts : Why → ℕ → State → Run
 halts w place st = record { tables = []; desk = st; refusal = Some (stop w place) }
 
 abbrev pub following : (State → Run) → ℕ → After → Run
 following on place (goes st) = on st
-following on place (closes t) = listing t (on idle)
+following on place (closes t) = before (closed_at t place) (on idle)
 following on place (stops w st) = halts w place st
 
 abbrev pub running : (ℕ → State → Run) → ℕ → State → Found → Run

@@ -1,9 +1,8 @@
 // The desk on which a sheet's tables are typed, one at a time.
 ghost use Rattle.std.specs.Prelude.{◌≡◌};
 ghost use Rattle.job.specs.Rejections.{reported};
-ghost use Rattle.sheet.specs.Desk.{kind_of, largest_of, limits, side_of, state_of, tolerates, typing};
+ghost use Rattle.sheet.specs.Desk.{limits, state_of, tolerates, typing};
 
-use crate::kind::Kind;
 use crate::sheet_fault::SheetFault;
 use job::{Job, Rejected};
 use scalar::Complex;
@@ -52,34 +51,6 @@ pub struct Stopped {
 
 // A match in each: the jobs are of two types, and a closure that takes either would have to be generic.
 impl Table {
-    pub(crate) fn kind(&self) -> Kind
-        ensures value { result ≡ kind_of self.now }
-    {
-        match self {
-            Table::Real(_) => Kind::Real,
-            Table::Outline(_) => Kind::Outline,
-        }
-    }
-
-    pub(crate) fn side(&self) -> usize
-        ensures value { result ≡ side_of self.now }
-    {
-        match self {
-            Table::Real(job) => job.side(),
-            Table::Outline(job) => job.side(),
-        }
-    }
-
-    // The largest size gathered.
-    pub(crate) fn largest(&self) -> f64
-        ensures value { result ≡ largest_of self.now }
-    {
-        match self {
-            Table::Real(job) => job.largest(),
-            Table::Outline(job) => job.largest(),
-        }
-    }
-
     pub(crate) fn set_tolerance(&mut self, tolerance: f64) -> Result<(), Rejected>
         ensures outcome { typing (reported result) (state_of self.new) ≡ tolerates (state_of self.old) tolerance }
     {

@@ -1,7 +1,7 @@
 // Reading a sheet, table by table.
 ghost use Rattle.std.specs.Prelude.{◌≡◌, drop};
 ghost use Rattle.sheet.specs.Desk.{idle};
-ghost use Rattle.sheet.specs.Laws.{OneByOne, gathered_reading};
+ghost use Rattle.sheet.specs.Laws.{Final, Gathers, Joins, Kept, OneByOne, gathered_reading};
 ghost use Rattle.sheet.specs.Readings.{had_room, reading_of};
 ghost use Rattle.sheet.specs.Sheets.{table_from};
 
@@ -12,13 +12,21 @@ use crate::sheet_fault::Refusal;
 use std::alloc::Global;
 
 // The next table that the sheet closes from `place` on. A table still open at the sheet's end is none.
-#[tactic(auto, using(crate::proofs::Runs::table_first, crate::proofs::Gathering::closed_gathered))]
+#[tactic(auto, using(crate::proofs::Whole::next_table_laws))]
 pub fn next_table(heap: Global, sheet: &[u8], place: usize) -> Result<Option<Reading>, Refusal>
     ensures reading { reading_of result ≡ table_from (had_room (reading_of result)) 0 place idle (drop place sheet.now) }
     // the largest size gathered for the table is that of the whole table
     ensures gathered { gathered_reading (reading_of result) }
-    // a whole sheet lists its tables one by one
+    // a whole sheet closes its tables one by one
     ensures one_by_one { OneByOne sheet.now place }
+    // the largest size gathered for each table that a whole sheet closes is that of the whole table
+    ensures gathers { Gathers sheet.now }
+    // what follows a refused command does not matter
+    ensures unread { Final sheet.now }
+    // nor what follows a closed table
+    ensures kept { Kept sheet.now }
+    // a sheet behind one that closes all its tables is read after it
+    ensures joins { Joins sheet.now }
 {
     let mut desk = Desk { table: None };
     // a place, and no iterator of commands: `next_command` reads at any place, and a refusal tells it
@@ -30,10 +38,7 @@ pub fn next_table(heap: Global, sheet: &[u8], place: usize) -> Result<Option<Rea
                 desk = still;
                 at = next.after;
             }
-            Ok(Applied::Closes(table)) => return Ok(Some(Reading {
-                table,
-                after: next.after,
-            })),
+            Ok(Applied::Closes(table)) => return Ok(Some(Reading::new(table, at, next.after))),
             Err(stopped) => return Err(stopped.fault.at(at)),
         }
     }

@@ -4,7 +4,7 @@
 ghost use Rattle.std.specs.Prelude.{◌<◌};
 
 use anyhow::anyhow;
-use sheet::list_sheet;
+use listing::list_sheet;
 use std::alloc::{AllocError, Global};
 
 // What a hexadecimal digit stands for (`char::to_digit` takes small letters too); 0 for anything else, which the table has not.

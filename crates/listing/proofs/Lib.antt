@@ -1,0 +1,6 @@
+pub mod Hexadecimal
+pub mod Joining
+pub mod Sizes
+pub mod Tables
+pub mod Vectors
+pub mod Whole

@@ -1,0 +1,56 @@
+-- Laws over whole listings. Definitions only.
+use Rattle.std.specs.Prelude.{◌≡◌, ℕ, List, ◌++◌, length, Some, None, Option, ◌≢◌}
+use Rattle.std.specs.List.{AllByRecursion}
+use Rattle.tridiagonal.specs.Reduce.{largest_size}
+use Rattle.job.specs.Typed.{entries}
+use Rattle.sheet.specs.declared.desk.Asked.{Asked}
+use Rattle.sheet.specs.declared.desk.Asked.TheVariants.{Values, Vectors}
+use Rattle.sheet.specs.Desk.{Table, real_table, outline_table, reals, outlines}
+use Rattle.sheet.specs.Laws.{ClosesAll, cut_off, later}
+use Rattle.sheet.specs.Sheets.{Stop, run}
+use Rattle.listing.specs.declared.line.Line.{Line}
+use Rattle.listing.specs.Listings.{Listed, Made, lists, fails, lines, made_of_table, outline_kind, real_kind}
+
+-- The largest size that was gathered as a table was typed is the one that its reduction finds and divides by.
+abbrev pub reduces_by : Table → Type 0
+reduces_by (real_table asked j) = j.largest ≡ largest_size real_kind (entries reals j)
+reduces_by (outline_table asked j) = j.largest ≡ largest_size outline_kind (entries outlines j)
+
+abbrev pub Reduces : List ℕ → Type 0
+Reduces s = AllByRecursion (λ c. reduces_by c.table) (run s).tables
+
+-- The same table, where something else is asked of it.
+abbrev pub asking : Asked → Table → Table
+asking asked (real_table other j) = real_table asked j
+asking asked (outline_table other j) = outline_table asked j
+
+-- The same refusal, or the same lines and then others.
+abbrev pub ListsMore : Made → Made → Type 0
+ListsMore (lists ls) (lists more) = (others : List Line) × (more ≡ ls ++ others)
+ListsMore (lists ls) (fails w) = ⊥
+ListsMore (fails v) (lists more) = ⊥
+ListsMore (fails v) (fails w) = v ≡ w
+
+-- Asked for vectors, a table lists what it does asked for values, and then its rows.
+abbrev pub adds_rows_to : Table → Type 0
+adds_rows_to t = ListsMore (made_of_table (asking Values t)) (made_of_table (asking Vectors t))
+
+abbrev pub AddsRows : List ℕ → Type 0
+AddsRows s = AllByRecursion (λ c. adds_rows_to c.table) (run s).tables
+
+-- What follows a refused command does not matter, be it refused by the reader or as its table is solved. (A command that is cut
+-- off is another one when more bytes follow.)
+abbrev pub Unlisted : List ℕ → Type 0
+Unlisted s = (t : List ℕ) (x : Stop) → (lines s).refusal ≡ Some x → (x.why ≢ cut_off) → lines (s ++ t) ≡ lines s
+
+-- One listing behind another, whose sheet has n bytes: nothing follows a refusal.
+abbrev pub unless_ended : Option Stop → Listed → ℕ → Listed → Listed
+unless_ended None a n b = record { lines = a.lines ++ b.lines; refusal = later n b.refusal }
+unless_ended (Some x) a n b = a
+
+abbrev pub behind : Listed → ℕ → Listed → Listed
+behind a n b = unless_ended a.refusal a n b
+
+-- A sheet that closes all its tables, and a second one behind it.
+abbrev pub ListsBehind : List ℕ → Type 0
+ListsBehind s = (t : List ℕ) → ClosesAll (run s) → lines (s ++ t) ≡ behind (lines s) (length s) (lines t)
