@@ -16,6 +16,7 @@ import sys
 PLOT, LEFT, TOP, RIGHT, UNDER, LINE = 4600, 700, 200, 250, 700, 220
 # How far from the mean the ellipse and the lines go.
 SPREADS = 2
+# The lines of the directions with the largest values; further ones are not drawn.
 STYLES = (("#1f4e9c", "none"), ("#b3450b", "160 60"), ("#1d7335", "40 50"))
 # A quarter of a circle is drawn as the cubic curve with such handles, which is as good as one.
 HANDLE = 0.5522847498
@@ -118,20 +119,20 @@ def words(frame, directions, names):
     for place, ((colour, dashes), (value, d, which)) in enumerate(zip(STYLES, directions)):
         y = top + place * LINE
         yield '<path d="M%d %dh440" stroke="%s" stroke-width="34" stroke-dasharray="%s"/>' % (LEFT, y, colour, dashes)
-        told = ", ".join("%s %.2f" % (name, part) for name, part in zip(names, d))
+        told = ", ".join(["%s %.2f" % pair for pair in zip(names[:3], d)] + [".."] * (len(names) > 3))
         share = 100 * value / total
         yield '<text x="%d" y="%d" font-size="145">direction %d, %.1f%%: %s</text>' % (LEFT + 540, y + 50, which, share, told)
 
 
 def picture(people_path, listing_path):
     names, people = read_people(people_path)
-    directions = read_directions(listing_path)[:len(STYLES)]
+    directions = read_directions(listing_path)
     mean = [math.fsum(part) / len(people) for part in zip(*(measures[:2] for _, measures in people))]
     to_ellipse = circle_to_ellipse(directions)
     reach = [to_ellipse(x, y) for quarter in QUARTERS for x, y in quarter]
     frame = Frame([measures[:2] for _, measures in people] + [(mean[0] + x, mean[1] + y) for x, y in reach])
     width = LEFT + frame.width + RIGHT
-    height = TOP + frame.height + UNDER + len(directions) * LINE
+    height = TOP + frame.height + UNDER + min(len(STYLES), len(directions)) * LINE
     yield '<svg xmlns="http://www.w3.org/2000/svg" width="%d" height="%d" viewBox="0 0 %d %d" font-family="sans-serif" ' \
         'font-size="160">' % (width // 10, height // 10, width, height)
     yield "<title>%s and %s of %d people, and the main directions</title>" % (names[0], names[1], len(people))

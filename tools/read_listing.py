@@ -38,7 +38,8 @@ def share(value, values):
     """A value's part of their sum. There is none where a value is below zero by more than rounding leaves."""
     total = math.fsum(values)
     if total > 0 and min(values) >= -1e-9 * max(values):
-        return ", %.1f%% of all, spread %.4g" % (100 * value / total, math.sqrt(max(value, 0.0)))
+        value = max(value, 0.0)
+        return ", %.1f%% of all, spread %.4g" % (100 * value / total, math.sqrt(value))
     return ""
 
 
