@@ -4,8 +4,8 @@ use crate::{MOST_PASSES, MOST_SIDE};
 use std::error::Error;
 use std::fmt;
 
-/// Why a matrix is not decomposed, under the numbers and names of docs/REFUSALS.md. Lower numbers are tested first, but 3 (the
-/// entries) after 4 and 5. Rows and columns are counted from 0.
+/// Why a matrix is not decomposed, under the numbers and names of docs/REFUSALS.md. Lower numbers are tested first. Rows and columns
+/// are counted from 0.
 #[derive(Clone, Copy, Debug, PartialEq, Eq, Hash)]
 pub enum Refusal {
     /// 1: the side, which is the number of rows, is 0 or above 512.
@@ -80,3 +80,35 @@ impl fmt::Display for Refusal {
 }
 
 impl Error for Refusal {}
+
+#[cfg(test)]
+mod tests {
+    use super::*;
+
+    /// No real matrix is known for 8, and memory is seldom wanting: so the answers of the C functions are made up here.
+    #[test]
+    fn each_number_is_told() {
+        for number in 0..=300 {
+            let told = Refusal::told(Outcome { number, count: 5, row: 6, column: 7 }, 8, 9);
+            let wanted = match number {
+                0 => Ok(()),
+                1 => Err(Refusal::Side { side: 8 }),
+                2 => Err(Refusal::Length { rows: 8, columns: 9 }),
+                3 => Err(Refusal::Entry { row: 6, column: 7 }),
+                4 => Err(Refusal::Tolerance),
+                5 => Err(Refusal::Limit),
+                7 => Err(Refusal::NotSettled { count: 5 }),
+                8 => Err(Refusal::Pair { count: 5 }),
+                255 => Err(Refusal::Memory),
+                _ => Err(Refusal::Unknown { number }),
+            };
+            assert_eq!(told, wanted);
+            if let Err(refusal) = told {
+                assert_eq!(refusal.number(), number);
+                assert!(number == 255 || refusal.to_string().starts_with(&number.to_string()));
+            }
+        }
+        assert_eq!(Refusal::Pair { count: 5 }.to_string(), "8 PAIR: a block of two has no two values, after 5 passes");
+        assert_eq!(Refusal::Memory.to_string(), "memory was wanting");
+    }
+}
