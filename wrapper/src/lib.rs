@@ -117,6 +117,7 @@ where
     }
 
     /// Decomposes a matrix, or tells why not. Never panics. The limit is the library's: from 1 to 1,000,000, and any other is refused.
+    /// Everything else is as of [`SymmetricEigen::try_new`].
     pub fn try_solve(m: &OMatrix<T, D, D>, eps: T::RealField, limit: usize) -> Result<Self, Refusal> {
         let (side, columns) = m.shape();
         // Before there is room for the answer, which a side that is refused would make large.
