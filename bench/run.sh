@@ -1,31 +1,10 @@
 #!/bin/sh
-# Builds the static library and runs a program over it and nalgebra:
+# Builds the static library and runs a program over it and nalgebra (cargo.sh says where the crates come from):
 #
 #     sh bench/run.sh compare|speed [ARGUMENT..]
-#
-# NALGEBRA_REGISTRY names a folder of crates (fetch.sh makes one); without it cargo takes what it has of its usual registry.
 set -eu
 
 [ $# -ge 1 ] || { echo "usage: sh run.sh compare|speed [ARGUMENT..]" >&2; exit 2; }
 program=$1
 shift
-here=$(cd "$(dirname "$0")" && pwd)
-library="$here/../crates/symmetric_eigen_c"
-(cd "$library" && rt lib > "$here/lib.log" 2>&1) || { tail -n 20 "$here/lib.log" >&2; exit 1; }
-
-SYMMETRIC_EIGEN_C=$(cd "$library/out" && pwd)/libsymmetric_eigen_c.a
-# What the library's memory comes from: the kit's calls of malloc and free.
-RATTLE_HEAP=$(dirname "$(rt doc)")/c/liblibc_c.a
-CARGO_TARGET_DIR=${CARGO_TARGET_DIR:-$here/target}
-export SYMMETRIC_EIGEN_C RATTLE_HEAP CARGO_TARGET_DIR
-
-if [ -n "${NALGEBRA_REGISTRY:-}" ]; then
-    folder=$(cd "$NALGEBRA_REGISTRY" && pwd)
-    set -- --config 'source.crates-io.replace-with="folder"' --config "source.folder.directory=\"$folder\"" -- "$@"
-else
-    echo "run.sh: NALGEBRA_REGISTRY is not set (see fetch.sh): cargo takes what it has kept of its usual registry" >&2
-    set -- -- "$@"
-fi
-cd "$here"
-# The words before -- are cargo's, those behind it the program's.
-exec cargo run --release --offline --quiet --bin "$program" "$@"
+exec sh "$(dirname "$0")/cargo.sh" bench run --release --quiet --bin "$program" -- "$@"
