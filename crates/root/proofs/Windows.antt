@@ -1,5 +1,5 @@
 -- The size of a word, and the window that its root's digits are drawn from. Assumes nothing.
-use Rattle.std.proofs.Common.{◌≡◌, ℕ, zero, suc, ◌+◌, ◌-◌, ◌*◌, ◌/◌, ◌%◌, ◌^◌, ◌<◌, ◌≤◌, sym, refl, ap, ◌∙◌, le_trans, le_of_suc-le-suc, zero-lt-suc, mul_assoc, le_antisymm, pow-suc, lt_of_not-le, mul-div_cancel, arith, lit<, lit≤, pow_pos, pow_mono, pow-add, shl_exact}
+use Rattle.std.proofs.Common.{◌≡◌, ℕ, zero, suc, ◌+◌, ◌-◌, ◌*◌, ◌/◌, ◌%◌, ◌^◌, ◌<◌, ◌≤◌, sym, refl, ap, ◌∙◌, le_trans, le_of_suc-le-suc, mul_assoc, le_antisymm, pow-suc, lt_of_not-le, arith, lit<, lit≤, pow_mono, pow-add, shl_exact, shl_lt, subst}
 use lib.Count.{count_leading_zeros, leading_length}
 use lib.Ieee.{Format, binary32, binary64, prec, emax, hid, ones, size}
 use lib.Ieee.Digits.{size-lt, size-le}
@@ -18,32 +18,26 @@ leading_size m h = let l = leading_length 64 m h in ap (λ (k : ℕ). count_lead
 power_sum : (m i j k : ℕ) → i + j ≡ k → m * 2 ^ i * 2 ^ j ≡ m * 2 ^ k
 power_sum m i j k e = mul_assoc m (2 ^ i) (2 ^ j) ∙ ap (λ (x : ℕ). m * x) (sym (pow-add 2 i j) ∙ ap (λ (x : ℕ). 2 ^ x) e)
 
-pub window_is : (m a : ℕ) → m < 2 ^ 63 → a < 2 → m * 2 ^ count_leading_zeros 64 m % 2 ^ 64 / 2 ^ (1 - a) ≡ m * 2 ^ (63 - size m + a)
-window_is m a h A =
-    let z = size m in
-    let l = count_leading_zeros 64 m in
-    let e : l + z ≡ 64 = leading_size m (omega arith) in
-    let s : z ≤ 63 = size-le m 63 h in
-    ap (λ (x : ℕ). x / 2 ^ (1 - a)) (shl_exact z l 64 (size-lt m) (omega arith) ∙ sym (power_sum m (63 - z + a) (1 - a) l (omega arith)))
-    ∙ mul-div_cancel (m * 2 ^ (63 - z + a)) (pow_pos (1 - a))
+pub upper_is : (m d a : ℕ) → m < 2 ^ d → d < 63 → a < 2 → m * 2 ^ (d - size m + a) % 2 ^ 64 ≡ m * 2 ^ (d - size m + a)
+upper_is m d a h D A = shl_exact (size m) (d - size m + a) 64 (size-lt m) (omega (arith, size-le m d h))
 
-four_power : (k : ℕ) → 4 ^ k ≡ 2 ^ (2 * k)
+pub four_power : (k : ℕ) → 4 ^ k ≡ 2 ^ (2 * k)
 four_power zero = refl
 four_power (suc k) = pow-suc 4 k ∙ ap (λ (x : ℕ). x * 4) (four_power k) ∙ sym (pow-add 2 (2 * k) 2) ∙ ap (λ (x : ℕ). 2 ^ x) (omega arith)
 
--- the number of which the window has the upper digits is four times the radicand
-pub window_radicand : (m p a : ℕ) → m < 2 ^ p → 0 < p → p < 63
-    → m * 2 ^ (63 - size m + a) * 4 ^ suc p / 2 ^ 64 ≡ 4 * (m * 2 ^ (2 * p - 1 + a - size m))
-window_radicand m p a h P L =
+-- the number of which this is the upper half is four times the radicand
+pub upper_radicand : (m p a : ℕ) → m < 2 ^ p → 0 < p → m * 2 ^ (p - size m + a) * 2 ^ suc p ≡ 4 * (m * 2 ^ (2 * p - 1 + a - size m))
+upper_radicand m p a h P =
     let z = size m in
     let s : z ≤ p = size-le m p h in
     let t = 2 * p - 1 + a - z in
-    ap (λ (x : ℕ). m * 2 ^ (63 - z + a) * x / 2 ^ 64) (four_power (suc p))
-    ∙ ap (λ (x : ℕ). x / 2 ^ 64)
-    (power_sum m (63 - z + a) (2 * suc p) (t + 2 + 64) (omega arith) ∙ sym (power_sum m (t + 2) 64 (t + 2 + 64) refl))
-    ∙ mul-div_cancel (m * 2 ^ (t + 2)) (zero-lt-suc (2 ^ 64 - 1))
-    ∙ sym (power_sum m t 2 (t + 2) refl)
-    ∙ omega arith
+    power_sum m (p - z + a) (suc p) (t + 2) (omega arith) ∙ sym (power_sum m t 2 (t + 2) refl) ∙ omega arith
+
+pub upper_small : (m p d a w : ℕ) → d ≡ p → m < 2 ^ p → a < 2 → w ≡ m * 2 ^ (d - size m + a) → w < 2 ^ suc d
+upper_small m p d a w e h A is =
+    let l : m < 2 ^ d = subst (λ (x : ℕ). m < 2 ^ x) (sym e) h in
+    let s : size m ≤ d = size-le m d l in
+    subst (λ (x : ℕ). x < 2 ^ suc d) (sym is) (le_trans (shl_lt (size m) (d - size m + a) (size-lt m)) (pow_mono (omega arith)))
 
 -- ---- the pattern of a root, as the code puts it together
 
@@ -64,16 +58,15 @@ module _ (f : Format) (m i : ℕ) {z rise : ℕ} (e : z ≡ size m) (r : rise �
   high_is h = λ j. place_is j / 2 * h j
 
   pub whole_is : {hidden digits w q : ℕ} → hidden ≡ hid f → digits ≡ prec f → m < 2 ^ prec f
-      → w ≡ m * 2 ^ (63 - size m + (i + z + rise) % 2)
-      → q ≡ (whole_root (suc digits) (w * 4 ^ suc digits / 2 ^ 64) + 1) / 2
+      → w ≡ m * 2 ^ (digits - size m + (i + z + rise) % 2)
+      → q ≡ (whole_root (suc digits) (w * 2 ^ suc digits) + 1) / 2
       → (i + z + rise) / 2 * hidden + q ≡ root_at f m i
-  whole_is {w = w} h d few u v =
+  whole_is {digits = digits} {w = w} h d few u v =
       let p = prec f in
-      let w_is = u ∙ ap (λ (x : ℕ). m * 2 ^ (63 - size m + x % 2)) place_is in
+      let w_is : w ≡ m * 2 ^ (p - size m + place f m i % 2) = u ∙ (λ j. m * 2 ^ (d j - size m + place_is j % 2)) in
       let n_is =
-      ap (λ (x : ℕ). x * 4 ^ suc p / 2 ^ 64) w_is
-      ∙ window_radicand m p (place f m i % 2) few (omega (arith, two f)) (omega (arith, (bounds f).digits)) in
+      ap (λ (x : ℕ). x * 2 ^ suc p) w_is ∙ upper_radicand m p (place f m i % 2) few (omega (arith, two f)) in
       let q_is =
-      v ∙ (λ j. (whole_root (suc (d j)) (w * 4 ^ suc (d j) / 2 ^ 64) + 1) / 2)
+      v ∙ (λ j. (whole_root (suc (d j)) (w * 2 ^ suc (d j)) + 1) / 2)
       ∙ ap (λ (n : ℕ). (whole_root (suc p) n + 1) / 2) n_is in
       λ j. high_is h j + q_is j

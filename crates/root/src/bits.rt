@@ -14,13 +14,14 @@ fn size_of(m: u64) -> u64
     64 - u64::from(m.leading_zeros())
 }
 
-// The digits of m from the top of a word down, behind a zero where the place is even.
-#[tactic(auto, using(crate::proofs::Windows::window_is))]
-fn window_of(m: u64, place: u64) -> u64
-    requires { (0 < m) × (m < 2 ^ 63) }
-    ensures { result ≡ m * 2 ^ (63 - size m + place % 2) }
+// The digits of m, the first at the place behind `digits` others, or before it where the place is even.
+#[tactic(auto, using(crate::proofs::Windows::upper_is))]
+fn upper_of(m: u64, digits: u64, place: u64) -> u64
+    requires few { m < 2 ^ digits }
+    requires small { digits < 63 }
+    ensures { result ≡ m * 2 ^ (digits - size m + place % 2) }
 {
-    (m << m.leading_zeros()) >> (1 - place % 2)
+    m << (digits - size_of(m) + place % 2)
 }
 
 // The pattern of the root of m × 2^(i - low).
@@ -32,7 +33,8 @@ fn root_at<F: Binary>(m: u64, i: u64) -> u64
     ensures finite { result < ones F.format * hid F.format }
 {
     let place = i + size_of(m) + F::RISE;
-    place / 2 * F::HIDDEN + nearest_root(window_of(m, place), F::DIGITS)
+    let digits = F::DIGITS;
+    place / 2 * F::HIDDEN + nearest_root(upper_of(m, digits, place), digits)
 }
 
 // The pattern of the root of the number above zero that has the pattern b. Below the least normal number there is no leading digit,

@@ -4,6 +4,7 @@ use borrow.Rule.Slice.PartMut.{put_mid}
 use Rattle.std.proofs.lemmas.List.{drop-take, drop_more, drop_all, take_rest, take_more, take_more_set, get_or-append_right}
 use Rattle.std.proofs.lemmas.Bool.{cases_lt}
 use Rattle.std.proofs.Math.ListN.{get_or-append}
+use Rattle.std.proofs.lemmas.Nat.{div-mul-add, mod-mul-add}
 use Rattle.std.proofs.Math.Nat.{mod-eq_of_lt, mod-eq-sub-mod, div-eq_of_lt, add-div_right}
 use Rattle.std.proofs.lemmas.Slice.{take-put_mid, drop-put_mid}
 use Rattle.tridiagonal.specs.Assemble.{unit_from, identity_from, reflected_columns, reflected_from, assembled_from, matrix_q}
@@ -82,12 +83,21 @@ module _ {C R : Type 0} (K : Kind C R) where
       (cases_lt k n)
 
   -- The first k entries are written, and now the next.
-  pub identity_more : (n k : ℕ) (q : List C) (v : C) → 0 < n → k < n * n → k < length q →
+  identity_more : (n k : ℕ) (q : List C) (v : C) → 0 < n → k < n * n → k < length q →
       v ≡ cond (eqb (k % n) (k / n)) K.ops.one K.ops.zero → take k q ≡ take k (identity_from K n 0 n) →
       take (k + 1) (set q k v) ≡ take (k + 1) (identity_from K n 0 n)
   identity_more n k q v some h within is so_far =
       let there : k < length (identity_from K n 0 n) = let long = length_identity n 0 n in omega arith in
       cc (identity_at n 0 n k v some h, zero-add (k / n), take_more_set q k v within, take_more (identity_from K n 0 n) k v there)
+
+  -- the same, where the place is counted by row and column
+  pub identity_counted : (n k row column : ℕ) (q : List C) (v : C) → 0 < n → k < n * n → k < length q →
+      row < n → k ≡ column * n + row → v ≡ cond (eqb row column) K.ops.one K.ops.zero → take k q ≡ take k (identity_from K n 0 n) →
+      take (k + 1) (set q k v) ≡ take (k + 1) (identity_from K n 0 n)
+  identity_counted n k row column q v some h within inside place is so_far =
+      let r : k % n ≡ row = ap (λ (x : ℕ). x % n) place ∙ mod-mul-add column n row inside in
+      let d : k / n ≡ column = ap (λ (x : ℕ). x / n) place ∙ div-mul-add column n row inside in
+      identity_more n k q v some h within (is ∙ sym (λ j. cond (eqb (r j) (d j)) K.ops.one K.ops.zero)) so_far
 
   length_reflected : (axis ys : List C) (sign : C) → length axis ≡ length ys → length (reflected K axis sign ys) ≡ length ys
   unfolding reflected

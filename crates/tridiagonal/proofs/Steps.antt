@@ -1,42 +1,25 @@
 -- One step of the reduction, on a table that begins at the step's column.
-use Rattle.std.proofs.Common.{◌≡◌, ℕ, zero, suc, ◌+◌, ◌-◌, ◌*◌, ◌<◌, ◌≤◌, Bool, true, false, cond, List, ◌∷◌, ◌++◌, length, take, drop, sym, ◌∙◌, ⊎_elim, append_assoc, add-one, arith, take-append-drop, take-take, drop-drop, take-add}
+use Rattle.std.proofs.Common.{◌≡◌, ℕ, zero, suc, ◌+◌, ◌-◌, ◌<◌, ◌≤◌, Bool, true, false, cond, List, ◌∷◌, ◌++◌, length, take, drop, sym, ◌∙◌, ⊎_elim, append_assoc, add-one, arith, take-append-drop, take-take, drop-drop, take-add}
 use borrow.Rule.Slice.PartMut.{put_mid}
 use Rattle.std.proofs.lemmas.List.{drop-take, take_rest}
 use Rattle.std.proofs.lemmas.Slice.{take-put_mid, drop-put_mid, between-put_mid}
 use Rattle.std.proofs.lemmas.Bool.{cases_Bool, cond-true, cond-false}
 use Rattle.tridiagonal.specs.Blas.{dotc_of}
 use Rattle.tridiagonal.specs.Householder.{Kind, axis_of, axis_reflects}
-use Rattle.tridiagonal.specs.Hermitian.{hegemv_of, hegerc_of}
+use Rattle.tridiagonal.specs.Hermitian.{hegemv_of, hegerc_three_of}
 use Rattle.tridiagonal.specs.Tables.{lower, put}
 use Rattle.tridiagonal.specs.Tridiagonal.{two, minus_one, updated, stepped_column, stepped_rest}
-use Rattle.tridiagonal.proofs.Columns.{shaped_lower, lower_cons, put_cons, put_none, put_put}
+use Rattle.tridiagonal.proofs.Columns.{lower_cons, put_cons, put_none}
 use Rattle.tridiagonal.proofs.Lent.{end_written}
-use Rattle.tridiagonal.proofs.Products.{shaped_hegerc}
 
 module _ {C R : Type 0} (K : Kind C R) where
-  -- Three updates, one on the other, are one write.
-  pub three_updates_put : (n k m : ℕ) (t t1 t2 t3 axis p : List C) (a b d : C) → k + m ≡ n → m * n ≤ length t →
-      length axis ≡ m → length p ≡ m →
+  -- The three updates of a step, from what the code hands to them.
+  pub three_updates_put : (n k m : ℕ) (t t1 axis p : List C) (a b d : C) →
       a ≡ two K → b ≡ minus_one K → p ≡ hegemv_of K.ops a (lower n k m t) axis → d ≡ K.ops.mul (dotc_of K.ops axis p) a →
-      t1 ≡ put n k m (hegerc_of K.ops b p axis (lower n k m t)) t →
-      lower n k m t1 ≡ hegerc_of K.ops b p axis (lower n k m t) →
-      t2 ≡ put n k m (hegerc_of K.ops b axis p (lower n k m t1)) t1 →
-      lower n k m t2 ≡ hegerc_of K.ops b axis p (lower n k m t1) →
-      t3 ≡ put n k m (hegerc_of K.ops d axis axis (lower n k m t2)) t2 →
-      t3 ≡ put n k m (updated K axis (lower n k m t)) t
+      t1 ≡ put n k m (hegerc_three_of K.ops b d p axis (lower n k m t)) t →
+      t1 ≡ put n k m (updated K axis (lower n k m t)) t
   unfolding updated
-  three_updates_put n k m t t1 t2 t3 axis p a b d all held as_axis as_p is_two is_less is_p is_d e1 l1 e2 l2 e3 =
-      let o = K.ops in
-      let cs = lower n k m t in
-      let cs1 = hegerc_of o b p axis cs in
-      let cs2 = hegerc_of o b axis p cs1 in
-      let cs3 = hegerc_of o d axis axis cs2 in
-      let s1 = shaped_hegerc o b m p axis cs (shaped_lower n k m t all held) as_p in
-      let s2 = shaped_hegerc o b m axis p cs1 s1 as_axis in
-      let s3 = shaped_hegerc o d m axis axis cs2 s2 as_axis in
-      let w2 : t2 ≡ put n k m cs2 t = cc (e1, l1, e2, put_put n k m cs1 cs2 t all held s1 s2) in
-      let m2 : lower n k m t2 ≡ cs2 = cc (l1, l2) in
-      cc (e3, m2, w2, put_put n k m cs2 cs3 t all held s2 s3)
+  three_updates_put n k m t t1 axis p a b d is_two is_less is_p is_d e = cc
 
 -- A table's own lower columns put over it change nothing.
 pub put_lower : {C : Type 0} (n k m : ℕ) (t : List C) → k + m ≡ n → put n k m (lower n k m t) t ≡ t

@@ -31,3 +31,7 @@ module _ {C R : Type 0} (o : Ops C R) (a : C) where
   unfoldable pub hegerc_of : List C → List C → List (List C) → List (List C)
   hegerc_of xs ys [] = []
   hegerc_of xs ys (c ∷ cs) = axpy_of o (o.mul a (o.conj (slice_index_or ys 0 o.zero))) xs o.one c ∷ hegerc_of (drop 1 xs) (drop 1 ys) cs
+
+-- A + a·x·w* + a·w·x* + d·w·w*, each on the one before
+abbrev pub hegerc_three_of : {C R : Type 0} → Ops C R → C → C → List C → List C → List (List C) → List (List C)
+hegerc_three_of o a d xs ws cs = hegerc_of o d ws ws (hegerc_of o a ws xs (hegerc_of o a xs ws cs))

@@ -3,7 +3,7 @@ ghost use Rattle.std.specs.Prelude.{◌≡◌, ◌+◌, ◌-◌, ◌*◌, ◌/�
 ghost use borrow.Rule.Slice.PartMut.{put_mid};
 ghost use Rattle.tridiagonal.specs.Blas.{no_sums, running_sums, dotc_of};
 ghost use Rattle.tridiagonal.specs.Blas.{axc_of, axcpy_of, axpy_of, norm_squared_of, norm_of, unscaled, normalised};
-ghost use Rattle.tridiagonal.specs.Hermitian.{row_sum, below_sum, first_sum, first_column, hegemv_of, hegerc_of};
+ghost use Rattle.tridiagonal.specs.Hermitian.{row_sum, below_sum, first_sum, first_column, hegemv_of, hegerc_three_of};
 ghost use Rattle.tridiagonal.specs.Squares.{SameSquare};
 ghost use Rattle.tridiagonal.specs.Tables.{lower, put};
 
@@ -74,6 +74,36 @@ pub(crate) fn axpy<T: Scalar>(y: &mut [T], a: T, x: &[T], b: T)
         axc(y, a, x);
     } else {
         axcpy(y, a, x, b);
+    }
+}
+
+// y becomes ((d·v)·1) + 1·z for each entry v of w, where z is ((b·v)·1) + 1·(((a·u)·1) + 1·y) for the entry u of x at its place.
+fn axcpy_three<T: Scalar>(y: &mut [T], a: T, x: &[T], b: T, d: T, w: &[T])
+    requires as_x { length x.now ≡ length y.old }
+    requires as_w { length w.now ≡ length y.old }
+    ensures { y.new ≡ axcpy_of T.ops d w.now T.ops.one (axcpy_of T.ops b w.now T.ops.one
+        (axcpy_of T.ops a x.now T.ops.one y.old)) }
+{
+    let one = T::one();
+    for (i, entry) in y.iter_mut().enumerate() {
+        let first = a.mul(x[i]).mul(one).add(one.mul(*entry));
+        let second = b.mul(w[i]).mul(one).add(one.mul(first));
+        *entry = d.mul(w[i]).mul(one).add(one.mul(second));
+    }
+}
+
+// Three axpys, of x and then twice of w, in one pass over y: of a column that is not in the nearest memory, each pass waits for it.
+#[tactic(auto, unfolding(crate::specs::Blas::axpy_of))]
+fn axpy_three<T: Scalar>(y: &mut [T], a: T, x: &[T], b: T, d: T, w: &[T])
+    requires as_x { length x.now ≡ length y.old }
+    requires as_w { length w.now ≡ length y.old }
+    ensures { y.new ≡ axpy_of T.ops d w.now T.ops.one (axpy_of T.ops b w.now T.ops.one
+        (axpy_of T.ops a x.now T.ops.one y.old)) }
+{
+    if T::one().is_zero() {
+        axc(y, d, w);
+    } else {
+        axcpy_three(y, a, x, b, d, w);
     }
 }
 
@@ -154,35 +184,37 @@ impl<T: Scalar> Square<'_, T> {
         }
     }
 
-    // The lower part of column j gets a·x added.
+    // The lower part of column j gets a·x, b·w and d·w added.
     #[tactic(auto, using(crate::proofs::Columns::column_held))]
-    fn axpy_column(&mut self, j: usize, a: T, x: &[T])
+    fn axpy_column(&mut self, j: usize, a: T, x: &[T], b: T, d: T, w: &[T])
         requires within { j < self.old.n - self.old.k }
         requires as_x { length x.now ≡ self.old.n - (self.old.k + j) }
+        requires as_w { length w.now ≡ self.old.n - (self.old.k + j) }
         ensures cells { let n = self.old.n in let at = j * n + (self.old.k + j) in let t = self.old.cells.now in
             self.new.cells.now ≡ put_mid at (j * n + n - at) t
-            (axpy_of T.ops a x.now T.ops.one (take (n - (self.old.k + j)) (drop at t))) }
+            (axpy_of T.ops d w.now T.ops.one (axpy_of T.ops b w.now T.ops.one
+            (axpy_of T.ops a x.now T.ops.one (take (n - (self.old.k + j)) (drop at t))))) }
         ensures same { SameSquare self.old self.new }
     {
         let (from, to) = (j * self.n + (self.k + j), j * self.n + self.n);
-        axpy(&mut self.cells[from..to], a, x, T::one());
+        axpy_three(&mut self.cells[from..to], a, x, b, d, w);
     }
 
-    // A becomes A + alpha·(x·y*), on its lower triangle.
-    pub(crate) fn hegerc(&mut self, alpha: T, x: &[T], y: &[T])
+    // A becomes A + alpha·(x·w*) + alpha·(w·x*) + beta·(w·w*), on its lower triangle: three updates, one on the other.
+    pub(crate) fn hegerc_three(&mut self, alpha: T, beta: T, x: &[T], w: &[T])
         requires as_x { length x.now ≡ self.old.n - self.old.k }
-        requires as_y { length y.now ≡ self.old.n - self.old.k }
+        requires as_w { length w.now ≡ self.old.n - self.old.k }
         ensures table { let m = self.old.n - self.old.k in
-            self.new.cells.now ≡ put self.old.n self.old.k m (hegerc_of T.ops alpha x.now y.now
+            self.new.cells.now ≡ put self.old.n self.old.k m (hegerc_three_of T.ops alpha beta x.now w.now
             (lower self.old.n self.old.k m self.old.cells.now)) self.old.cells.now }
-        ensures lower { let m = self.old.n - self.old.k in
-            lower self.old.n self.old.k m self.new.cells.now ≡ hegerc_of T.ops alpha x.now y.now
-            (lower self.old.n self.old.k m self.old.cells.now) }
         ensures same { SameSquare self.old self.new }
     {
-        // By index: a column and x each begin one further down than those before.
+        // By index: a column, x and w each begin one further down than those before.
         for j in 0..self.n - self.k {
-            self.axpy_column(j, alpha.mul(y[j].conjugate()), &x[j..]);
+            let a = alpha.mul(w[j].conjugate());
+            let b = alpha.mul(x[j].conjugate());
+            let d = beta.mul(w[j].conjugate());
+            self.axpy_column(j, a, &x[j..], b, d, &w[j..]);
         }
     }
 }

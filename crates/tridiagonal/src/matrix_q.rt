@@ -25,8 +25,16 @@ fn identity<T: Scalar>(n: usize, q: &mut [T])
     requires held { length q.old ≡ n * n }
     ensures { q.new ≡ identity_from (kind T.ops T.Real.ops T.Real.real) n 0 n }
 {
-    for (k, entry) in q.iter_mut().enumerate() {
-        *entry = unit_entry(k % n, k / n);
+    // Row and column are counted: a division of the place for each entry took a tenth of the whole at side 128.
+    let mut row: usize = 0;
+    let mut column: usize = 0;
+    for entry in q.iter_mut() {
+        *entry = unit_entry(row, column);
+        row += 1;
+        if row == n {
+            row = 0;
+            column += 1;
+        }
     }
 }
 

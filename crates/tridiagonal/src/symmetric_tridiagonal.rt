@@ -35,9 +35,7 @@ impl<T: Scalar> Square<'_, T> {
         self.hegemv(two, axis, p);
         let dot = dotc(axis, p);
         let minus_one = T::one().neg();
-        self.hegerc(minus_one, p, axis);
-        self.hegerc(minus_one, axis, p);
-        self.hegerc(dot.mul(two), axis, axis);
+        self.hegerc_three(minus_one, dot.mul(two), p, axis);
     }
 }
 
