@@ -1,10 +1,16 @@
 #!/bin/sh
 # Builds the static library and runs a program over it and nalgebra (cargo.sh says where the crates come from):
 #
-#     sh bench/run.sh compare|speed [ARGUMENT..]
+#     sh bench/run.sh compare|speed|sheets [ARGUMENT..]
+#
+# sheets runs the program of the crate sheet_check, which is then built too.
 set -eu
 
-[ $# -ge 1 ] || { echo "usage: sh run.sh compare|speed [ARGUMENT..]" >&2; exit 2; }
+[ $# -ge 1 ] || { echo "usage: sh run.sh compare|speed|sheets [ARGUMENT..]" >&2; exit 2; }
 program=$1
 shift
-exec sh "$(dirname "$0")/cargo.sh" bench run --release --quiet --bin "$program" -- "$@"
+here=$(cd "$(dirname "$0")" && pwd)
+if [ "$program" = sheets ]; then
+    (cd "$here/../crates/sheet_check" && rt run < /dev/null > "$here/program.log" 2>&1) || { tail -n 20 "$here/program.log" >&2; exit 1; }
+fi
+exec sh "$here/cargo.sh" bench run --release --quiet --bin "$program" -- "$@"
