@@ -27,5 +27,7 @@ else
     set -- -- "$@"
 fi
 cd "$here"
+# The kit compiles the library for x86-64-v2, so nalgebra is compiled for it too. RUSTFLAGS, where it is set, counts in its place.
+set -- --config 'build.rustflags=["-C", "target-cpu=x86-64-v2"]' "$@"
 # The words before -- are cargo's, those behind it the program's.
 exec cargo run --release --offline --quiet --bin "$program" "$@"
