@@ -13,4 +13,6 @@ here=$(cd "$(dirname "$0")" && pwd)
 if [ "$program" = sheets ]; then
     (cd "$here/../crates/sheet_check" && rt run < /dev/null > "$here/program.log" 2>&1) || { tail -n 20 "$here/program.log" >&2; exit 1; }
 fi
-exec sh "$here/cargo.sh" bench run --release --quiet --bin "$program" -- "$@"
+# The kit compiles the library for x86-64-v2, so nalgebra is compiled for it too. RUSTFLAGS, where it is set, counts in its place.
+exec sh "$here/cargo.sh" bench run --release --quiet --config 'build.rustflags=["-C", "target-cpu=x86-64-v2"]' \
+    --bin "$program" -- "$@"
