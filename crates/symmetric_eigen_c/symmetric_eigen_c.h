@@ -1,7 +1,7 @@
 /* The C functions of the crate symmetric_eigen_c. Written by hand to fit src/: nothing compares the two.
  *
  * Tables stand column by column. Each buffer is a pointer and its length in numbers; no two may overlap, and none may be null,
- * not even one of length 0. Every length is allowed: a wrong one is refused. The functions of complex numbers, and both kinds of
+ * not even one of length 0. Every length is allowed: a wrong one is refused. The functions of complex numbers, and all that
  * solve, take memory by malloc. */
 #ifndef SYMMETRIC_EIGEN_C_H
 #define SYMMETRIC_EIGEN_C_H
