@@ -4,7 +4,7 @@
 Each bug is one line of crates/CRATE/src turned into another of the same shape: another operand, a neighbouring comparison, another
 constant, two arguments exchanged, a write left out, another refusal. Clauses, ghost lines, comments and signatures are left alone.
 Works on a copy. A bug is caught where `rt must-fail` refuses it; one of a program that the prover lets through is caught where
-`rt try` prints something else than the crate's stdout. What is not caught is listed at the end: status 1 if there is any.
+`rt run` prints something else than the crate's stdout. What is not caught is listed at the end: status 1 if there is any.
 """
 import argparse
 import glob
@@ -114,12 +114,12 @@ def prints_otherwise(work, crate, path, old, new):
         file.write(text.replace(old, new))
     given = os.path.join(folder, "stdin")
     with open(given if os.path.exists(given) else os.devnull, "rb") as stdin:
-        out = subprocess.run(["rt", "try"], cwd=folder, stdin=stdin, capture_output=True)
+        out = subprocess.run(["rt", "run"], cwd=folder, stdin=stdin, capture_output=True)
     with open(source, "w", encoding="utf-8") as file:
         file.write(text)
     wanted = os.path.join(folder, "stdout")
     expected = open(wanted, "rb").read() if os.path.exists(wanted) else b""
-    return out.returncode != 0 or expected not in out.stdout
+    return out.returncode != 0 or out.stdout != expected
 
 
 def main():
