@@ -1,16 +1,7 @@
 //! The library, through the C functions of the crate `symmetric_eigen_c`. A slice crosses as a pointer and a length.
+pub use crate::declarations::Outcome;
 use crate::kinds::Kind;
 use crate::point::Point;
-
-/// The number is 0 where the call did its work, 255 where memory was wanting, and else the refusal's.
-#[repr(C)]
-#[derive(Clone, Copy, Debug, PartialEq, Eq)]
-pub struct Outcome {
-    pub number: u32,
-    pub count: u32,
-    pub row: usize,
-    pub column: usize,
-}
 
 /// What a reduction leaves, and Q.
 #[derive(Clone)]
@@ -58,25 +49,7 @@ pub trait Library: Kind {
     fn solve(side: usize, table: &[Self], tolerance: Self::RealField, limit: u32, room: &mut Eigen<Self>) -> Outcome;
 }
 
-macro_rules! solves {
-    ($($number:ty, $real:ty, $solve:ident;)*) => {
-        unsafe extern "C" {$(
-            fn $solve(
-                n: usize,
-                table: *const $number,
-                table_length: usize,
-                tolerance: $real,
-                limit: u32,
-                values: *mut $real,
-                values_length: usize,
-                vectors: *mut $number,
-                vectors_length: usize,
-            ) -> Outcome;
-        )*}
-    };
-}
-
-solves! {
+declare_solves! {
     f64, f64, symmetric_eigen_c_solve_r64;
     f32, f32, symmetric_eigen_c_solve_r32;
     Point<f64>, f64, symmetric_eigen_c_solve_c64;
@@ -146,50 +119,40 @@ macro_rules! solves_by {
     };
 }
 
+// The call of a reduction, with the buffers that only some take.
+macro_rules! reduces_by {
+    ($reduce:ident $(, $scratch:ident)?) => {
+        fn reduce(side: usize, form: &mut Form<Self>) -> Outcome {
+            unsafe {
+                $reduce(
+                    side,
+                    form.table.as_mut_ptr(),
+                    form.table.len(),
+                    form.values.as_mut_ptr(),
+                    form.values.len(),
+                    form.offs.as_mut_ptr(),
+                    form.offs.len(),
+                    form.signs.as_mut_ptr(),
+                    form.signs.len(),
+                    $(form.$scratch.as_mut_ptr(), form.$scratch.len(),)?
+                    form.q.as_mut_ptr(),
+                    form.q.len(),
+                )
+            }
+        }
+    };
+}
+
 macro_rules! libraries {
     ($($real:ty: $reduce_real:ident $solve_real:ident $reduce_complex:ident $solve_complex:ident;)*) => {$(
         impl Library for $real {
-            fn reduce(side: usize, form: &mut Form<$real>) -> Outcome {
-                unsafe {
-                    $reduce_real(
-                        side,
-                        form.table.as_mut_ptr(),
-                        form.table.len(),
-                        form.values.as_mut_ptr(),
-                        form.values.len(),
-                        form.offs.as_mut_ptr(),
-                        form.offs.len(),
-                        form.signs.as_mut_ptr(),
-                        form.signs.len(),
-                        form.scratch.as_mut_ptr(),
-                        form.scratch.len(),
-                        form.q.as_mut_ptr(),
-                        form.q.len(),
-                    )
-                }
-            }
+            reduces_by!($reduce_real, scratch);
 
             solves_by!($solve_real);
         }
 
         impl Library for Point<$real> {
-            fn reduce(side: usize, form: &mut Form<Point<$real>>) -> Outcome {
-                unsafe {
-                    $reduce_complex(
-                        side,
-                        form.table.as_mut_ptr(),
-                        form.table.len(),
-                        form.values.as_mut_ptr(),
-                        form.values.len(),
-                        form.offs.as_mut_ptr(),
-                        form.offs.len(),
-                        form.signs.as_mut_ptr(),
-                        form.signs.len(),
-                        form.q.as_mut_ptr(),
-                        form.q.len(),
-                    )
-                }
-            }
+            reduces_by!($reduce_complex);
 
             solves_by!($solve_complex);
         }

@@ -1,15 +1,6 @@
 //! The C functions, as safe calls. The only unsafe code of the crate.
+pub use crate::declarations::Outcome;
 use nalgebra::Complex;
-
-/// The number is 0 where the call did its work, 255 where memory was wanting, and else the refusal's.
-#[repr(C)]
-#[derive(Clone, Copy, Debug, PartialEq, Eq)]
-pub struct Outcome {
-    pub number: u32,
-    pub count: u32,
-    pub row: usize,
-    pub column: usize,
-}
 
 /// What the library has a function for: sealed, as no kind can be added outside of it.
 pub trait Call: nalgebra::ComplexField {
@@ -27,19 +18,7 @@ pub trait Call: nalgebra::ComplexField {
 macro_rules! calls {
     ($($number:ty, $real:ty, $function:ident;)*) => {
         // Complex is laid out as C's struct of its two parts.
-        unsafe extern "C" {$(
-            fn $function(
-                n: usize,
-                table: *const $number,
-                table_length: usize,
-                tolerance: $real,
-                limit: u32,
-                values: *mut $real,
-                values_length: usize,
-                vectors: *mut $number,
-                vectors_length: usize,
-            ) -> Outcome;
-        )*}
+        declare_solves! { $($number, $real, $function;)* }
 
         $(impl Call for $number {
             fn solve(

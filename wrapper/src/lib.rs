@@ -28,6 +28,9 @@
 //! - Numbers are of the four kinds of [`Number`]; nalgebra takes any `ComplexField`.
 #![deny(unsafe_code)]
 
+#[macro_use]
+mod declarations;
+
 #[allow(unsafe_code)]
 mod calls;
 mod refusal;
