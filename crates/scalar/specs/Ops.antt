@@ -19,8 +19,8 @@ pub record Ops (C R : Type 0) : Type 0 where
   -- The size is what tables are scaled by, |a| + |b| of a complex number; the modulus its absolute value.
   pub size : C → R
   pub modulus : C → R
-  -- The sign split is the modulus and a number of modulus one, of which x is the product. At a real zero of
-  -- either sign that number is 1, where the sign is the zero's own: the two differ at -0.
+  -- The sign split is the modulus and a number of modulus one, of which x is the product in exact arithmetic. At a
+  -- real zero of either sign that number is 1, where the sign is the zero's own: the two differ at -0.
   pub split : C → R × C
   pub sign : C → C
 

@@ -49,7 +49,7 @@ pub trait Arithmetic: Copy {
     fn modulus(self) -> Self::Part
         ensures value { result ≡ ops.modulus self };
 
-    // The modulus, and a number of modulus one that it is multiplied by to give this one.
+    // The modulus, and what it is multiplied by to give this number, in exact arithmetic. docs/NUMBERS.md has both at zeros and NaN.
     fn split_sign(self) -> (Self::Part, Self)
         ensures value { result ≡ ops.split self };
 
@@ -91,7 +91,7 @@ pub trait RealScalar: Arithmetic<Part = Self> {
     fn is_finite(self) -> bool
         ensures value { result ≡ real.is_finite self };
 
-    // The absolute value, which is this number's size and modulus.
+    // The absolute value: the number's size.
     fn abs(self) -> Self
         ensures value { result ≡ Self.ops.size self }
         ensures sized { T (real.is_finite result) → T (real.is_size result) }
