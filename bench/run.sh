@@ -1,12 +1,12 @@
 #!/bin/sh
 # Builds the static library and runs a program over it and nalgebra (cargo.sh says where the crates come from):
 #
-#     sh bench/run.sh compare|speed|sheets [ARGUMENT..]
+#     sh bench/run.sh compare|speed|sheets|repeat [ARGUMENT..]
 #
 # sheets runs the program of the crate sheet_check, which is then built too.
 set -eu
 
-[ $# -ge 1 ] || { echo "usage: sh run.sh compare|speed|sheets [ARGUMENT..]" >&2; exit 2; }
+[ $# -ge 1 ] || { echo "usage: sh run.sh compare|speed|sheets|repeat [ARGUMENT..]" >&2; exit 2; }
 program=$1
 shift
 here=$(cd "$(dirname "$0")" && pwd)
