@@ -1,4 +1,4 @@
--- The first entry whose size is not finite, by its place, and the largest size, by a fold.
+-- The first entry whose size is not finite, by its place, and the largest size.
 use Rattle.std.proofs.Common.{◌≡◌, ℕ, suc, ◌+◌, ◌/◌, ◌%◌, ◌<◌, Bool, true, false, not, cond, List, [], ◌∷◌, fold, length, get_or, drop, position, Some, None, Option, sym, refl, ap, ◌∙◌, add-one}
 use Rattle.std.specs.List.{position_from}
 use Rattle.std.proofs.lemmas.Iterator.Adapters.{position_from-zero}
@@ -6,7 +6,7 @@ use Rattle.std.proofs.lemmas.List.{get_or_default}
 use Rattle.fault.specs.Refusals.{Refusal, refused}
 use Rattle.tridiagonal.specs.Checks.{entry_refusal}
 use Rattle.tridiagonal.specs.Householder.{Kind}
-use Rattle.tridiagonal.specs.Reduce.{largest_from, largest_size}
+use Rattle.tridiagonal.specs.Reduce.{larger_size, largest_size}
 
 module _ {C R : Type 0} (K : Kind C R) (n : ℕ) where
   abbrev not_finite : C → Bool
@@ -29,17 +29,8 @@ module _ {C R : Type 0} (K : Kind C R) (n : ℕ) where
   entry_checked xs = sym (ap refused_at (position_from-zero not_finite xs) ∙ refused_first 0 xs)
 
 module _ {C R : Type 0} (K : Kind C R) where
-  abbrev pub larger_size : R → C → R
-  larger_size l x = K.real.larger l (K.ops.size x)
-
-  largest_fold : (l : R) (xs : List C) → fold larger_size l xs ≡ largest_from K l xs
-  unfolding largest_from
-  largest_fold l [] = refl
-  largest_fold l (x ∷ xs) = largest_fold (larger_size l x) xs
-
   pub largest_is : (t : List C) (x : C) (l m : R) → 0 < length t → l ≡ K.ops.size (get_or t 0 x) →
-      m ≡ fold larger_size l (drop 1 t) → m ≡ largest_size K t
+      m ≡ fold (larger_size K) l (drop 1 t) → m ≡ largest_size K t
   unfolding largest_size
   largest_is t x l m h e f =
-      f ∙ largest_fold l (drop 1 t)
-      ∙ ap (λ (r : R). largest_from K r (drop 1 t)) (e ∙ ap K.ops.size (get_or_default t 0 x K.ops.zero h))
+      f ∙ ap (λ (r : R). fold (larger_size K) r (drop 1 t)) (e ∙ ap K.ops.size (get_or_default t 0 x K.ops.zero h))

@@ -4,12 +4,12 @@ use Rattle.std.proofs.lemmas.List.{same_lists}
 use Rattle.fault.specs.Refusals.{Refusal}
 use Rattle.tridiagonal.specs.Checks.{refusal_for}
 use Rattle.tridiagonal.specs.Householder.{Kind}
-use Rattle.tridiagonal.specs.Outcome.{Outcome, Reduced, Refused, reduce_outcome, unless_refused}
+use Rattle.tridiagonal.specs.Outcome.{Outcome, Reduced, Refused, reduce_outcome}
 use Rattle.tridiagonal.specs.Reduce.{largest_size, divided, reduced_lower, reduced_signs, reduced_offs, reduced_values, reduced_table, values_of, offs_of, signs_of}
 use Rattle.tridiagonal.specs.Runs.{Buffers, ReduceRun, AlikeBelow, OnlyLower}
 use Rattle.tridiagonal.specs.Tables.{lower, put}
 use Rattle.tridiagonal.specs.Tridiagonal.{reduced_columns}
-use Rattle.tridiagonal.proofs.Accepted.{accepted}
+use Rattle.tridiagonal.specs.Accepted.{accepted, unless_none}
 use Rattle.tridiagonal.proofs.Columns.{lower_cons, lower_none, column_held}
 use Rattle.tridiagonal.proofs.Whole.{whole_table, whole_lower}
 
@@ -55,9 +55,6 @@ module _ {C : Type 0} (n : ℕ) (t u : List C) (t_long : length t ≡ n * n) (u_
   lower_same =
       let all : 0 + n ≡ n = omega arith in
       cc (columns_same 0 n all, zero-mul n)
-
-unless_none : {A : Type 0} (o : Option Refusal) (was made : A) → o ≡ None → unless_refused o was made ≡ made
-unless_none o was made e = ap (λ z. unless_refused z was made) e
 
 module _ {C R : Type 0} (K : Kind C R) where
   -- the lower columns of a reduced table

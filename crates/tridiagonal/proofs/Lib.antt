@@ -1,4 +1,3 @@
-mod Accepted
 mod Assembled
 mod Columns
 mod Dots

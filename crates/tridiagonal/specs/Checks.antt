@@ -1,11 +1,11 @@
 -- What a reduction is refused for. Definitions only.
-use Rattle.std.specs.Prelude.{ℕ, suc, ◌-◌, ◌*◌, ◌/◌, ◌%◌, Bool, cond, ◌&&◌, ◌||◌, List, [], ◌∷◌, length, Some, None, Option, ◌==◌, nat_lt}
+use Rattle.std.specs.Prelude.{ℕ, suc, ◌-◌, ◌*◌, ◌/◌, ◌%◌, Bool, not, cond, ◌&&◌, List, [], ◌∷◌, length, Some, None, Option, ◌==◌}
+use Rattle.fault.specs.Bounds.{side_fits}
 use Rattle.fault.specs.Refusals.{Refusal, refused}
 use Rattle.tridiagonal.specs.Householder.{Kind}
 
--- the side is 0 or above 512
 abbrev pub side_refused : ℕ → Bool
-side_refused n = n == 0 || nat_lt 512 n
+side_refused n = not (side_fits n)
 
 -- a table has n · n numbers, values n, and offs, signs and scratch n - 1
 abbrev pub lengths_agree : ℕ → ℕ → ℕ → ℕ → ℕ → ℕ → Bool

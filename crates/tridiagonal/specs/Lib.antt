@@ -1,3 +1,4 @@
+pub mod Accepted
 pub mod Assemble
 pub mod Blas
 pub mod Checks

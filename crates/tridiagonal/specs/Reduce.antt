@@ -1,18 +1,18 @@
 -- What a reduction answers and leaves. Definitions only.
-use Rattle.std.specs.Prelude.{ℕ, ◌-◌, cond, List, [], ◌∷◌, map, drop, slice_index_or}
+use Rattle.std.specs.Prelude.{ℕ, ◌-◌, cond, List, map, fold, drop, slice_index_or}
 use Rattle.tridiagonal.specs.Blas.{unscaled}
 use Rattle.tridiagonal.specs.Householder.{Kind}
 use Rattle.tridiagonal.specs.Tables.{lower, put}
 use Rattle.tridiagonal.specs.Tridiagonal.{diagonal, reduced_columns, reduced_norms}
 
 module _ {C R : Type 0} (K : Kind C R) where
-  -- the largest of a size and those of some entries
-  unfoldable pub largest_from : R → List C → R
-  largest_from l [] = l
-  largest_from l (x ∷ xs) = largest_from (K.real.larger l (K.ops.size x)) xs
+  -- the larger of a size and that of one more entry
+  abbrev pub larger_size : R → C → R
+  larger_size l x = K.real.larger l (K.ops.size x)
 
+  -- the first entry's size, and then the larger of it and each further one's
   unfoldable pub largest_size : List C → R
-  largest_size t = largest_from (K.ops.size (slice_index_or t 0 K.ops.zero)) (drop 1 t)
+  largest_size t = fold larger_size (K.ops.size (slice_index_or t 0 K.ops.zero)) (drop 1 t)
 
   -- every entry divided by the largest size, unless that is zero
   unfoldable pub divided : R → List C → List C

@@ -3,7 +3,7 @@ use Rattle.tridiagonal.specs.Householder.{kind}
 use Rattle.tridiagonal.specs.Outcome.{Reduced}
 use Rattle.tridiagonal.specs.Reduce.{divided}
 use Rattle.tridiagonal.specs.Runs.{buffers}
-use Rattle.tridiagonal.proofs.Accepted.{Accepted, accepted}
+use Rattle.tridiagonal.specs.Accepted.{Accepted, accepted}
 use Rattle.tridiagonal.proofs.Law.{accepted_run, only_lower}
 use Rattle.tridiagonal.proofs.Whole.{whole_table, whole_signs, whole_offs, whole_values}
 use Rattle.tridiagonal.proofs.symmetric_tridiagonal.reduce_accepted.Given.{Over}

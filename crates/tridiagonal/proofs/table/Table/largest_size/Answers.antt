@@ -2,7 +2,8 @@ use Rattle.std.proofs.Common.{◌<◌, length, fold, ap, ◌∙◌, arith}
 use Rattle.std.proofs.lemmas.List.{take_rest}
 use Rattle.tridiagonal.specs.Householder.{kind}
 use Rattle.tridiagonal.proofs.Columns.{column_held}
-use Rattle.tridiagonal.proofs.Entries.{larger_size, largest_is}
+use Rattle.tridiagonal.proofs.Entries.{largest_is}
+use Rattle.tridiagonal.specs.Reduce.{larger_size}
 use Rattle.tridiagonal.proofs.table.Table.largest_size.Goals as goal
 
 pub returns : goal.returns

@@ -1,8 +1,11 @@
--- What is known of a reduction that is not refused.
-use Rattle.std.proofs.Common.{◌≡◌, ℕ, ◌-◌, ◌*◌, ◌<◌, ◌≤◌, Bool, true, false, cond, eqb, ltb, List, length, Some, None, Option, refl, arith}
-use Rattle.std.proofs.lemmas.Bool.{or_parts, and_parts, eqb-false, eqb-true, ltb-false}
+-- What is known of a reduction that is not refused. Lemmas.
+use Rattle.std.proofs.Common.{◌≡◌, ℕ, ◌-◌, ◌*◌, ◌<◌, ◌≤◌, Bool, true, false, cond, eqb, leb, List, length, Some, None, Option, refl, ap}
+use Rattle.std.proofs.lemmas.Bool.{and_parts, eqb-true, leb-true, not-false}
+use Rattle.fault.specs.Bounds.{side_fits}
 use Rattle.tridiagonal.specs.Checks.{side_refused, lengths_agree, entry_refusal, reduce_refusal}
 use Rattle.tridiagonal.specs.Householder.{Kind}
+use Rattle.tridiagonal.specs.Outcome.{unless_refused}
+use Rattle.fault.specs.Refusals.{Refusal}
 
 pub record Accepted (n table values offs signs scratch : ℕ) : Type 0 where
   pub some : 0 < n
@@ -16,15 +19,14 @@ pub record Accepted (n table values offs signs scratch : ℕ) : Type 0 where
 by_tests : (n table values offs signs scratch : ℕ) → side_refused n ≡ false → lengths_agree n table values offs signs scratch ≡ true →
     Accepted n table values offs signs scratch
 by_tests n table values offs signs scratch side long =
-    let parts = or_parts (eqb n 0) (ltb 512 n) side in
-    let not_zero = eqb-false n 0 parts.0 in
+    let bounds = and_parts (leb 1 n) (leb n 512) (not-false (side_fits n) side) in
     let a = and_parts (eqb table (n * n)) _ long in
     let b = and_parts (eqb values n) _ a.1 in
     let c = and_parts (eqb offs (n - 1)) _ b.1 in
     let d = and_parts (eqb signs (n - 1)) _ c.1 in
     record {
-      some = omega (arith, not_zero);
-      few = ltb-false 512 n parts.1;
+      some = leb-true 1 n bounds.0;
+      few = leb-true n 512 bounds.1;
       as_table = eqb-true table (n * n) a.0;
       as_values = eqb-true values n b.0;
       as_offs = eqb-true offs (n - 1) c.0;
@@ -45,3 +47,7 @@ unfolding reduce_refusal
 accepted K n t values offs signs scratch none =
     let tests = not_refused (side_refused n) (lengths_agree n (length t) values offs signs scratch) _ _ (entry_refusal K n 0 t) none in
     by_tests n (length t) values offs signs scratch tests.0 tests.1
+
+-- where nothing is refused, what is made is left
+pub unless_none : {A : Type 0} (o : Option Refusal) (was made : A) → o ≡ None → unless_refused o was made ≡ made
+unless_none o was made e = ap (λ z. unless_refused z was made) e
