@@ -2,6 +2,7 @@
 use Rattle.std.specs.Prelude.{ℕ, ◌+◌, ◌*◌, Bool, true, cond, ◌&&◌, List, [], ◌∷◌, map, replicate, is_some, unwrap_or, Some, None, Option, from_bits, nat_le, nat_lt, slice_index_or, slice_set, Float}
 use Rattle.std.specs.Float.Ieee.{le}
 use Rattle.std.specs.Float.{float_is_finite, binary64}
+use Rattle.fault.specs.Bounds.{limit_fits}
 use Rattle.fault.specs.Refusals.{Refusal, refused}
 use Rattle.scalar.specs.Ops.{Ops, RealOps}
 
@@ -41,9 +42,6 @@ is_side n = nat_le 1 n && nat_le n 32
 -- A tolerance is finite and not below zero: minus zero is one, a NaN is none.
 abbrev pub is_tolerance : Float → Bool
 is_tolerance t = float_is_finite t && le (from_bits binary64 0) t
-
-abbrev pub is_limit : ℕ → Bool
-is_limit n = nat_le 1 n && nat_le n 1000000
 
 -- On and below the diagonal, and inside the table.
 abbrev pub is_lower : ℕ → ℕ → ℕ → Bool
@@ -104,6 +102,6 @@ module _ {C R : Type 0} where
 
   abbrev pub limiting : Typed C R → ℕ → Outcome C R
   limiting j n =
-      cond (is_limit n)
+      cond (limit_fits n)
       (cond j.limit_given (Some (refused 14 []), j) (None, record j { limit = n; limit_given = true }))
       (Some (refused 5 []), j)
