@@ -24,8 +24,8 @@ abbrev pub usual_limit : ℕ
 usual_limit = 1000
 
 -- A table by what is kept of it: the tolerance and the limit as they were given, if they were.
-abbrev pub table_of : {C R : Type 0} → ℕ → List (Option C) → Option Float → Option ℕ → R → Typed C R
-table_of side cells tolerance limit largest = record {
+abbrev pub typed_from : {C R : Type 0} → ℕ → List (Option C) → Option Float → Option ℕ → R → Typed C R
+typed_from side cells tolerance limit largest = record {
   side = side;
   cells = cells;
   tolerance = unwrap_or tolerance usual_tolerance;
@@ -71,7 +71,7 @@ module _ {C R : Type 0} where
       cond (nat_lt row j.side && nat_lt column j.side) (entry_of ops (slice_index_or j.cells (place j.side row column) None)) ops.zero
 
   abbrev pub blank : Ops C R → ℕ → Typed C R
-  blank ops side = table_of side (replicate (side * side) None) None None (ops.size ops.zero)
+  blank ops side = typed_from side (replicate (side * side) None) None None (ops.size ops.zero)
 
   -- The conjugate goes above the diagonal first, so that on the diagonal the number stands as typed.
   abbrev pub placed : Ops C R → ℕ → List (Option C) → ℕ → ℕ → C → List (Option C)

@@ -4,7 +4,7 @@ ghost use Rattle.std.specs.Option.{ForSome};
 ghost use Rattle.fault.specs.Bounds.{limit_fits};
 ghost use Rattle.job.specs.Gathered.{Gathered};
 ghost use Rattle.job.specs.Once.{gathered_once};
-ghost use Rattle.job.specs.Typed.{is_tolerance, table_of};
+ghost use Rattle.job.specs.Typed.{is_tolerance, typed_from};
 
 use scalar::{Arithmetic, RealScalar, Scalar};
 
@@ -23,5 +23,5 @@ pub struct Job<T: Scalar> {
     ghost tolerable: { ForSome tolerance (λ t. IsTrue (is_tolerance t)) },
     ghost limited: { ForSome limit (λ n. IsTrue (limit_fits n)) },
     pub ghost gathered: { Gathered T.ops T.Real.real
-        (table_of side cells.items tolerance limit largest) } by { gathered_once T.code T.Real.code },
+        (typed_from side cells.items tolerance limit largest) } by { gathered_once T.code T.Real.code },
 }

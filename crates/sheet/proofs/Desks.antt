@@ -13,7 +13,7 @@ use Rattle.scalar.specs.Lawful.{float_larger, float_laws, float_sizes, complex_s
 use Rattle.scalar.specs.Ops.{Ops, SizeLaws}
 use Rattle.scalar.specs.declared.point.Complex.{Complex}
 use Rattle.job.specs.Gathered.{Gathered}
-use Rattle.job.specs.Opening.{made, turned, starved, opened}
+use Rattle.job.specs.Opening.{made, declined, starved, opened}
 use Rattle.job.specs.Typed.{Typed, Outcome, blank, is_lower, is_side, is_tolerance, is_typed, putting, tolerating, limiting}
 use Rattle.job.proofs.Gathers.{blank_gathered, putting_gathered, tolerating_gathered, limiting_gathered}
 use Rattle.sheet.specs.Faults.{rule, memory}
@@ -85,7 +85,7 @@ module _ {C : Type 0} (state : Typed C Float → State) (stands : (j : Typed C F
       (side : ℕ) (room : Bool) → Sound idle (starting state (opened ops side room))
   begun ops sizes f side room = by_side (is_side side) room
     where
-      by_side : (b room : Bool) → Sound idle (starting state (cond b (cond room (made (blank ops side)) starved) (turned (refused 13 []))))
+      by_side : (b room : Bool) → Sound idle (starting state (cond b (cond room (made (blank ops side)) starved) (declined (refused 13 []))))
       by_side true true = record {
         stays = stands (blank ops side);
         fed = inl refl;
