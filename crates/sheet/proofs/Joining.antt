@@ -6,7 +6,7 @@ use Rattle.sheet.specs.declared.command.Code.{Code}
 use Rattle.sheet.specs.Faults.{Why}
 use Rattle.sheet.specs.Commands.{Found, nothing, found, wrong, code_of, coded, operand_bytes, saying}
 use Rattle.sheet.specs.Desk.{State, idle, After, goes, closes, stops, applying}
-use Rattle.sheet.specs.Sheets.{Run, Stop, stop, before, closed_at, following, running, run_from, run}
+use Rattle.sheet.specs.Sheets.{Run, Stop, stop, closed_then, closed_at, following, running, run_from, run}
 use Rattle.sheet.specs.Laws.{cut_off, Final, Begins, Kept, later, closed_later, Joins}
 
 -- A command is the same with more bytes behind it, unless it is cut off.
@@ -51,7 +51,7 @@ within (Some c) rest =
 followed : (on on' : State → Run) (place : ℕ) (a : After) (x : Stop) → (following on place a).refusal ≡ Some x →
     ((st : State) → (on st).refusal ≡ Some x → on' st ≡ on st) → following on' place a ≡ following on place a
 followed on on' place (goes st) x e f = f st e
-followed on on' place (closes t) x e f = ap (before (closed_at t place)) (f idle e)
+followed on on' place (closes t) x e f = ap (closed_then (closed_at t place)) (f idle e)
 followed on on' place (stops w st) x e f = refl
 
 ran : (on on' : ℕ → State → Run) (place : ℕ) (st : State) (f : Found) (x : Stop) → (running on place st f).refusal ≡ Some x →
@@ -125,7 +125,7 @@ followed_on : (on on' : State → Run) (go : State → Run) (place : ℕ) (a : A
     ((st : State) → (on st).refusal ≡ None → on' st ≡ and_then (on st) (go (on st).desk)) →
     following on' place a ≡ and_then (following on place a) (go (following on place a).desk)
 followed_on on on' go place (goes st) e f = f st e
-followed_on on on' go place (closes t) e f = ap (before (closed_at t place)) (f idle e)
+followed_on on on' go place (closes t) e f = ap (closed_then (closed_at t place)) (f idle e)
 followed_on on on' go place (stops w st) e f = absurd (cc)
 
 ran_on : (on on' : ℕ → State → Run) (go : State → Run) (len place : ℕ) (st : State) (f : Found) → Within len f →
@@ -167,7 +167,7 @@ shift k r = record { tables = map (closed_later k) r.tables; desk = r.desk; refu
 followed_late : (k : ℕ) (on on' : State → Run) (place : ℕ) (a : After) → ((st : State) → on' st ≡ shift k (on st)) →
     following on' (k + place) a ≡ shift k (following on place a)
 followed_late k on on' place (goes st) f = f st
-followed_late k on on' place (closes t) f = ap (before (closed_at t (k + place))) (f idle)
+followed_late k on on' place (closes t) f = ap (closed_then (closed_at t (k + place))) (f idle)
 followed_late k on on' place (stops w st) f = refl
 
 ran_late : (k : ℕ) (on on' : ℕ → State → Run) (place : ℕ) (st : State) (f : Found) → ((n : ℕ) (st : State) → on' n st ≡ shift k (on n st)) →

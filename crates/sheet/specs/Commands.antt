@@ -1,5 +1,5 @@
 -- The format of a sheet's commands. Definitions only.
-use Rattle.std.specs.Prelude.{ℕ, ◌+◌, cond, List, [], ◌∷◌, length, take, Some, None, Ok, Err, Option, Result, ◌==◌, nat_le}
+use Rattle.std.specs.Prelude.{ℕ, ◌+◌, cond, List, [], ◌∷◌, length, take, Some, None, Ok, Err, Option, Result, ok_or, ◌==◌, nat_le}
 use Rattle.fault.specs.Refusals.{refused}
 use Rattle.sheet.specs.declared.command.Code.{Code}
 use Rattle.sheet.specs.declared.command.Code.TheVariants as code
@@ -35,12 +35,8 @@ code_of byte =
     (cond (byte == 7) (Some code.Vectors) None))))))
 
 -- The same as an answer: a byte that begins none is a fault.
-abbrev pub answered : Option Code → Result Code SheetFault
-answered None = Err fault.Command
-answered (Some c) = Ok c
-
 abbrev pub code_answer : ℕ → Result Code SheetFault
-code_answer byte = answered (code_of byte)
+code_answer byte = ok_or (code_of byte) fault.Command
 
 -- How many operand bytes follow.
 abbrev pub operand_bytes : Code → ℕ

@@ -157,11 +157,13 @@ abbrev pub begun : Result Open SheetFault → After
 begun (Ok t) = goes (state_of t)
 begun (Err fault) = stops (why fault) idle
 
--- Whether there was memory: only want of it says no.
+-- Whether a refusal is other than want of memory. It tests the answer and not the memory: want of memory is open wherever a table
+-- is opened of a lawful kind and side.
 abbrev pub room_for : Why → Bool
 room_for (rule known) = true
 room_for memory = false
 
+-- The same of what a command comes to.
 abbrev pub roomy : After → Bool
 roomy (goes st) = true
 roomy (closes t) = true

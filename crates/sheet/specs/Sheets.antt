@@ -55,15 +55,15 @@ pub record Run : Type 0 where
 abbrev pub rests : State → Run
 rests st = record { tables = []; desk = st; refusal = None }
 
-abbrev pub before : Closing → Run → Run
-before c r = record { tables = c ∷ r.tables; desk = r.desk; refusal = r.refusal }
+abbrev pub closed_then : Closing → Run → Run
+closed_then c r = record { tables = c ∷ r.tables; desk = r.desk; refusal = r.refusal }
 
 abbrev pub halts : Why → ℕ → State → Run
 halts w place st = record { tables = []; desk = st; refusal = Some (stop w place) }
 
 abbrev pub following : (State → Run) → ℕ → After → Run
 following on place (goes st) = on st
-following on place (closes t) = before (closed_at t place) (on idle)
+following on place (closes t) = closed_then (closed_at t place) (on idle)
 following on place (stops w st) = halts w place st
 
 abbrev pub running : (ℕ → State → Run) → ℕ → State → Found → Run
