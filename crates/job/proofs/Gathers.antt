@@ -4,9 +4,10 @@ use lib.Ieee.{Float}
 use Rattle.std.proofs.lemmas.List.{length-map, length-replicate, get_or-map, get_or-replicate}
 use Rattle.std.proofs.lemmas.List.Elements.{All-set}
 use Rattle.std.proofs.lemmas.Bool.{and_parts}
+use Rattle.fault.specs.Bounds.{limit_fits}
 use Rattle.scalar.specs.Ops.{Ops, RealOps, LargerLaws, SizeLaws}
 use Rattle.job.specs.Gathered.{Gathered, HasSize, Sized, conjugated, largest_of, largest_size}
-use Rattle.job.specs.Typed.{Typed, Outcome, blank, entries, entry_of, is_limit, is_lower, is_tolerance, is_typed, limiting}
+use Rattle.job.specs.Typed.{Typed, Outcome, blank, entries, entry_of, is_lower, is_tolerance, is_typed, limiting}
 use Rattle.job.specs.Typed.{place, putting, tolerating, written}
 use Rattle.job.proofs.Folds.{largest_pair, largest_zeros, zeros_sized}
 use Rattle.job.proofs.Places.{place_inside}
@@ -50,7 +51,7 @@ module _ {C R : Type 0} (ops : Ops C R) (real : RealOps R) where
 
   pub limiting_gathered : (j : Typed C R) (n : ℕ) → Gathered ops real j → Gathered ops real (limiting j n).1
   limiting_gathered j n h =
-      kept (Gathered ops real) (is_limit n) _ _
+      kept (Gathered ops real) (limit_fits n) _ _
       (λ _. kept (Gathered ops real) j.limit_given _ _ (λ _. h) (λ _. beside j j.tolerance j.tolerance_given n true h))
       (λ _. h)
 

@@ -2,6 +2,7 @@
 use Rattle.std.specs.Prelude.{ℕ, ◌+◌, ◌*◌, Bool, true, cond, ◌&&◌, List, [], ◌∷◌, map, replicate, is_some, unwrap_or, Some, None, Option, from_bits, nat_le, nat_lt, slice_index_or, slice_set, Float}
 use Rattle.std.specs.Float.Ieee.{le}
 use Rattle.std.specs.Float.{float_is_finite, binary64}
+use Rattle.fault.specs.Bounds.{limit_fits}
 use Rattle.fault.specs.Refusals.{Refusal, refused}
 use Rattle.scalar.specs.Ops.{Ops, RealOps}
 
@@ -23,8 +24,8 @@ abbrev pub usual_limit : ℕ
 usual_limit = 1000
 
 -- A table by what is kept of it: the tolerance and the limit as they were given, if they were.
-abbrev pub table_of : {C R : Type 0} → ℕ → List (Option C) → Option Float → Option ℕ → R → Typed C R
-table_of side cells tolerance limit largest = record {
+abbrev pub typed_from : {C R : Type 0} → ℕ → List (Option C) → Option Float → Option ℕ → R → Typed C R
+typed_from side cells tolerance limit largest = record {
   side = side;
   cells = cells;
   tolerance = unwrap_or tolerance usual_tolerance;
@@ -41,9 +42,6 @@ is_side n = nat_le 1 n && nat_le n 32
 -- A tolerance is finite and not below zero: minus zero is one, a NaN is none.
 abbrev pub is_tolerance : Float → Bool
 is_tolerance t = float_is_finite t && le (from_bits binary64 0) t
-
-abbrev pub is_limit : ℕ → Bool
-is_limit n = nat_le 1 n && nat_le n 1000000
 
 -- On and below the diagonal, and inside the table.
 abbrev pub is_lower : ℕ → ℕ → ℕ → Bool
@@ -73,7 +71,7 @@ module _ {C R : Type 0} where
       cond (nat_lt row j.side && nat_lt column j.side) (entry_of ops (slice_index_or j.cells (place j.side row column) None)) ops.zero
 
   abbrev pub blank : Ops C R → ℕ → Typed C R
-  blank ops side = table_of side (replicate (side * side) None) None None (ops.size ops.zero)
+  blank ops side = typed_from side (replicate (side * side) None) None None (ops.size ops.zero)
 
   -- The conjugate goes above the diagonal first, so that on the diagonal the number stands as typed.
   abbrev pub placed : Ops C R → ℕ → List (Option C) → ℕ → ℕ → C → List (Option C)
@@ -104,6 +102,6 @@ module _ {C R : Type 0} where
 
   abbrev pub limiting : Typed C R → ℕ → Outcome C R
   limiting j n =
-      cond (is_limit n)
+      cond (limit_fits n)
       (cond j.limit_given (Some (refused 14 []), j) (None, record j { limit = n; limit_given = true }))
       (Some (refused 5 []), j)

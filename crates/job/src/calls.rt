@@ -1,9 +1,10 @@
 // Opening a table, and reading it.
 ghost use Rattle.std.specs.Prelude.{◌≡◌, ◌*◌, ◌≤◌, true, replicate, IfOk, None};
+ghost use Rattle.fault.specs.Bounds.{limit_fits};
 ghost use Rattle.job.specs.Gathered.{largest_of};
 ghost use Rattle.job.specs.Opening.{had_room, opened, opening};
 ghost use Rattle.job.specs.Shown.{typed};
-ghost use Rattle.job.specs.Typed.{entries, entry_at, entry_of, is_limit, is_side, is_tolerance};
+ghost use Rattle.job.specs.Typed.{entries, entry_at, entry_of, is_side, is_tolerance};
 
 use crate::checks::is_side;
 use crate::job::Job;
@@ -68,7 +69,7 @@ impl<T: Scalar> Job<T> {
 
     pub fn limit(&self) -> u32
         ensures value { result ≡ (typed self.now).limit }
-        ensures lawful { is_limit result ≡ true }
+        ensures lawful { limit_fits result ≡ true }
     {
         self.limit.unwrap_or(LIMIT)
     }

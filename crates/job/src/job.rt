@@ -1,9 +1,10 @@
 // The table itself. Its invariant is that of a lawful table: no other job can be built.
 ghost use Rattle.std.specs.Prelude.{◌≡◌, ◌*◌, ◌≤◌, IsTrue, vec_len};
 ghost use Rattle.std.specs.Option.{ForSome};
+ghost use Rattle.fault.specs.Bounds.{limit_fits};
 ghost use Rattle.job.specs.Gathered.{Gathered};
 ghost use Rattle.job.specs.Once.{gathered_once};
-ghost use Rattle.job.specs.Typed.{is_limit, is_tolerance, table_of};
+ghost use Rattle.job.specs.Typed.{is_tolerance, typed_from};
 
 use scalar::{Arithmetic, RealScalar, Scalar};
 
@@ -20,7 +21,7 @@ pub struct Job<T: Scalar> {
     ghost few: { side ≤ 32 },
     ghost whole: { vec_len cells ≡ side * side },
     ghost tolerable: { ForSome tolerance (λ t. IsTrue (is_tolerance t)) },
-    ghost limited: { ForSome limit (λ n. IsTrue (is_limit n)) },
+    ghost limited: { ForSome limit (λ n. IsTrue (limit_fits n)) },
     pub ghost gathered: { Gathered T.ops T.Real.real
-        (table_of side cells.items tolerance limit largest) } by { gathered_once T.code T.Real.code },
+        (typed_from side cells.items tolerance limit largest) } by { gathered_once T.code T.Real.code },
 }

@@ -5,6 +5,7 @@ use borrow.Author.Tests.{clash}
 use lib.Ieee.{Float, binary64, of_bits}
 use lib.Ieee.Bits.{of_bits-fits}
 use Rattle.std.proofs.lemmas.Bool.{cond_both}
+use Rattle.fault.specs.Bounds.{limit_fits}
 use Rattle.fault.specs.Refusals.{Refusal as Known, refused}
 use Rattle.scalar.specs.ComplexOps.{complex_of}
 use Rattle.scalar.specs.FloatLaws.{abs_size}
@@ -12,8 +13,8 @@ use Rattle.scalar.specs.Lawful.{float_larger, float_laws, float_sizes, complex_s
 use Rattle.scalar.specs.Ops.{Ops, SizeLaws}
 use Rattle.scalar.specs.declared.point.Complex.{Complex}
 use Rattle.job.specs.Gathered.{Gathered}
-use Rattle.job.specs.Opening.{made, turned, starved, opened}
-use Rattle.job.specs.Typed.{Typed, Outcome, blank, is_limit, is_lower, is_side, is_tolerance, is_typed, putting, tolerating, limiting}
+use Rattle.job.specs.Opening.{made, declined, starved, opened}
+use Rattle.job.specs.Typed.{Typed, Outcome, blank, is_lower, is_side, is_tolerance, is_typed, putting, tolerating, limiting}
 use Rattle.job.proofs.Gathers.{blank_gathered, putting_gathered, tolerating_gathered, limiting_gathered}
 use Rattle.sheet.specs.Faults.{rule, memory}
 use Rattle.sheet.specs.Commands.{Said, opens, entry, outline_entry, tolerance, limit, values, vectors}
@@ -84,7 +85,7 @@ module _ {C : Type 0} (state : Typed C Float → State) (stands : (j : Typed C F
       (side : ℕ) (room : Bool) → Sound idle (starting state (opened ops side room))
   begun ops sizes f side room = by_side (is_side side) room
     where
-      by_side : (b room : Bool) → Sound idle (starting state (cond b (cond room (made (blank ops side)) starved) (turned (refused 13 []))))
+      by_side : (b room : Bool) → Sound idle (starting state (cond b (cond room (made (blank ops side)) starved) (declined (refused 13 []))))
       by_side true true = record {
         stays = stands (blank ops side);
         fed = inl refl;
@@ -113,7 +114,7 @@ module _ {C : Type 0} (j : Typed C Float) where
 
   limit_before : (n : ℕ) → AsBefore (limiting j n)
   unfolding AsBefore
-  limit_before n = before (is_limit n) _ _ (before j.limit_given _ _ refl tt) refl
+  limit_before n = before (limit_fits n) _ _ (before j.limit_given _ _ refl tt) refl
 
 outline_sizes : SizeLaws outlines real_rules
 outline_sizes = complex_sizes (float_laws binary64)

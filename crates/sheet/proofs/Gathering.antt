@@ -4,7 +4,7 @@ use Rattle.std.specs.List.{AllByRecursion}
 use Rattle.sheet.specs.declared.desk.Asked.{Asked}
 use Rattle.sheet.specs.declared.desk.Table.{Table as Open}
 use Rattle.sheet.specs.declared.desk.Table.TheVariants as table
-use Rattle.sheet.specs.Commands.{Found, nothing, found, wrong, code_of, coded}
+use Rattle.sheet.specs.Commands.{Found, nothing, found, wrong, code_of, coded, operand_bytes, saying}
 use Rattle.sheet.specs.Desk.{State, idle, After, goes, closes, stops, applying, asked_of}
 use Rattle.sheet.specs.Laws.{gathered_table, Gathers}
 use Rattle.sheet.specs.Sheets.{Closing, Run, following, running, run_from}
@@ -25,7 +25,9 @@ ran : (on : ℕ → State → Run) (place : ℕ) (st : State) (f : Found) → On
     AllByRecursion GatheredAt (running on place st f).tables
 ran on place st nothing h f = tt
 ran on place st (wrong w) h f = tt
-ran on place st (found s n) h f = followed (on n) place (applying true st s) (applied_gathered true st s h) (f n)
+ran on place st (found c os) h f =
+    let n = operand_bytes c in let s = saying c os in
+    followed (on n) place (applying true st s) (applied_gathered true st s h) (f n)
 
 run_gathered : (bs : List ℕ) (skip p : ℕ) (st : State) → OnDesk st → AllByRecursion GatheredAt (run_from skip p st bs).tables
 unfolding run_from

@@ -4,9 +4,9 @@ use Rattle.std.proofs.lemmas.List.{take-append-le}
 use Rattle.std.proofs.lemmas.Bool.{cases_Bool}
 use Rattle.sheet.specs.declared.command.Code.{Code}
 use Rattle.sheet.specs.Faults.{Why}
-use Rattle.sheet.specs.Commands.{Found, nothing, found, wrong, code_of, coded, operand_bytes, saying, Said}
+use Rattle.sheet.specs.Commands.{Found, nothing, found, wrong, code_of, coded, operand_bytes, saying}
 use Rattle.sheet.specs.Desk.{State, idle, After, goes, closes, stops, applying}
-use Rattle.sheet.specs.Sheets.{Run, Stop, stop, before, closed_at, following, running, run_from, run}
+use Rattle.sheet.specs.Sheets.{Run, Stop, stop, closed_then, closed_at, following, running, run_from, run}
 use Rattle.sheet.specs.Laws.{cut_off, Final, Begins, Kept, later, closed_later, Joins}
 
 -- A command is the same with more bytes behind it, unless it is cut off.
@@ -17,47 +17,49 @@ longer (Some c) rest t =
     (cases_Bool (leb (operand_bytes c) (length rest)))
   where
     there : List ℕ → Found
-    there bs = found (saying c (take (operand_bytes c) bs)) (operand_bytes c)
+    there bs = found c (take (operand_bytes c) bs)
 
     whole : leb (operand_bytes c) (length rest) ≡ true → coded (Some c) (rest ++ t) ≡ coded (Some c) rest
     whole enough =
         let fits : operand_bytes c ≤ length rest = leb-true (operand_bytes c) (length rest) enough in
         let still : leb (operand_bytes c) (length (rest ++ t)) ≡ true =
         le-leb (operand_bytes c) (length (rest ++ t)) (simp length-append (omega arith)) in
-        ap (λ b. cond b (found (saying c (take (operand_bytes c) (rest ++ t))) (operand_bytes c)) (wrong cut_off)) still ∙
-        ap (λ bs. found (saying c bs) (operand_bytes c)) (take-append-le (operand_bytes c) rest t fits) ∙
-        sym (ap (λ b. cond b (found (saying c (take (operand_bytes c) rest)) (operand_bytes c)) (wrong cut_off)) enough)
+        ap (λ b. cond b (there (rest ++ t)) (wrong cut_off)) still ∙
+        ap (found c) (take-append-le (operand_bytes c) rest t fits) ∙
+        sym (ap (λ b. cond b (there rest) (wrong cut_off)) enough)
 
 -- Its operands lie within what is left.
 Within : ℕ → Found → Type 0
 Within len nothing = ⊥
-Within len (found s n) = n ≤ len
+Within len (found c os) = operand_bytes c ≤ len
 Within len (wrong w) = Unit {0}
 
-within_if : (b : Bool) (len n : ℕ) (s : Said) → (b ≡ true → n ≤ len) → Within len (cond b (found s n) (wrong cut_off))
+within_if : (b : Bool) (len : ℕ) (c : Code) (os : List ℕ) → (b ≡ true → operand_bytes c ≤ len) →
+    Within len (cond b (found c os) (wrong cut_off))
 unfolding Within
-within_if true len n s h = h refl
-within_if false len n s h = tt
+within_if true len c os h = h refl
+within_if false len c os h = tt
 
 within : (o : Option Code) (rest : List ℕ) → Within (length rest) (coded o rest)
 unfolding Within
 within None rest = tt
 within (Some c) rest =
-    within_if (leb (operand_bytes c) (length rest)) (length rest) (operand_bytes c) (saying c (take (operand_bytes c) rest))
+    within_if (leb (operand_bytes c) (length rest)) (length rest) c (take (operand_bytes c) rest)
     (leb-true (operand_bytes c) (length rest))
 
 -- What both answers of a command have, by what follows.
 followed : (on on' : State → Run) (place : ℕ) (a : After) (x : Stop) → (following on place a).refusal ≡ Some x →
     ((st : State) → (on st).refusal ≡ Some x → on' st ≡ on st) → following on' place a ≡ following on place a
 followed on on' place (goes st) x e f = f st e
-followed on on' place (closes t) x e f = ap (before (closed_at t place)) (f idle e)
+followed on on' place (closes t) x e f = ap (closed_then (closed_at t place)) (f idle e)
 followed on on' place (stops w st) x e f = refl
 
 ran : (on on' : ℕ → State → Run) (place : ℕ) (st : State) (f : Found) (x : Stop) → (running on place st f).refusal ≡ Some x →
     ((n : ℕ) (st : State) → (on n st).refusal ≡ Some x → on' n st ≡ on n st) → running on' place st f ≡ running on place st f
 ran on on' place st nothing x e h = refl
 ran on on' place st (wrong w) x e h = refl
-ran on on' place st (found s n) x e h = followed (on n) (on' n) place (applying true st s) x e (h n)
+ran on on' place st (found c os) x e h =
+    let n = operand_bytes c in followed (on n) (on' n) place (applying true st (saying c os)) x e (h n)
 
 why_of : Why → Option Stop → Why
 why_of w None = w
@@ -92,7 +94,8 @@ kept_on : (on on' : ℕ → State → Run) (place : ℕ) (st : State) (f : Found
     Begins (running on place st f) (running on' place st f)
 kept_on on on' place st nothing h = record { others = []; tables = refl }
 kept_on on on' place st (wrong w) h = record { others = []; tables = refl }
-kept_on on on' place st (found s n) h = kept_after (on n) (on' n) place (applying true st s) (h n)
+kept_on on on' place st (found c os) h =
+    let n = operand_bytes c in kept_after (on n) (on' n) place (applying true st (saying c os)) (h n)
 
 kept_from : (bs t : List ℕ) (skip p : ℕ) (st : State) → Begins (run_from skip p st bs) (run_from skip p st (bs ++ t))
 unfolding run_from
@@ -122,7 +125,7 @@ followed_on : (on on' : State → Run) (go : State → Run) (place : ℕ) (a : A
     ((st : State) → (on st).refusal ≡ None → on' st ≡ and_then (on st) (go (on st).desk)) →
     following on' place a ≡ and_then (following on place a) (go (following on place a).desk)
 followed_on on on' go place (goes st) e f = f st e
-followed_on on on' go place (closes t) e f = ap (before (closed_at t place)) (f idle e)
+followed_on on on' go place (closes t) e f = ap (closed_then (closed_at t place)) (f idle e)
 followed_on on on' go place (stops w st) e f = absurd (cc)
 
 ran_on : (on on' : ℕ → State → Run) (go : State → Run) (len place : ℕ) (st : State) (f : Found) → Within len f →
@@ -132,7 +135,8 @@ ran_on : (on on' : ℕ → State → Run) (go : State → Run) (len place : ℕ)
 unfolding Within
 ran_on on on' go len place st nothing w e h = absurd w
 ran_on on on' go len place st (wrong y) w e h = absurd (cc)
-ran_on on on' go len place st (found s n) w e h = followed_on (on n) (on' n) go place (applying true st s) e (λ st f. h n st w f)
+ran_on on on' go len place st (found c os) w e h =
+    let n = operand_bytes c in followed_on (on n) (on' n) go place (applying true st (saying c os)) e (λ st f. h n st w f)
 
 next_byte : (p : ℕ) (bs : List ℕ) → p + 1 + length bs ≡ p + suc (length bs)
 next_byte p bs = omega arith
@@ -163,14 +167,15 @@ shift k r = record { tables = map (closed_later k) r.tables; desk = r.desk; refu
 followed_late : (k : ℕ) (on on' : State → Run) (place : ℕ) (a : After) → ((st : State) → on' st ≡ shift k (on st)) →
     following on' (k + place) a ≡ shift k (following on place a)
 followed_late k on on' place (goes st) f = f st
-followed_late k on on' place (closes t) f = ap (before (closed_at t (k + place))) (f idle)
+followed_late k on on' place (closes t) f = ap (closed_then (closed_at t (k + place))) (f idle)
 followed_late k on on' place (stops w st) f = refl
 
 ran_late : (k : ℕ) (on on' : ℕ → State → Run) (place : ℕ) (st : State) (f : Found) → ((n : ℕ) (st : State) → on' n st ≡ shift k (on n st)) →
     running on' (k + place) st f ≡ shift k (running on place st f)
 ran_late k on on' place st nothing h = refl
 ran_late k on on' place st (wrong w) h = refl
-ran_late k on on' place st (found s n) h = followed_late k (on n) (on' n) place (applying true st s) (h n)
+ran_late k on on' place st (found c os) h =
+    let n = operand_bytes c in followed_late k (on n) (on' n) place (applying true st (saying c os)) (h n)
 
 late : (k : ℕ) (bs : List ℕ) (skip p : ℕ) (st : State) → run_from skip (k + p) st bs ≡ shift k (run_from skip p st bs)
 unfolding run_from

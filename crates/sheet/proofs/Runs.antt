@@ -2,7 +2,7 @@
 use Rattle.std.proofs.Common.{◌≡◌, ℕ, zero, suc, ◌+◌, ◌-◌, ◌<◌, ◌≤◌, Bool, true, List, [], ◌∷◌, length, drop, sym, refl, ap, ◌∙◌, ⊎_elim, add-zero, arith}
 use Rattle.std.proofs.lemmas.List.{drop_all}
 use Rattle.std.proofs.lemmas.Bool.{cases_lt}
-use Rattle.sheet.specs.Commands.{Found, nothing, found, wrong, code_of, coded}
+use Rattle.sheet.specs.Commands.{Found, nothing, found, wrong, code_of, coded, operand_bytes, saying}
 use Rattle.sheet.specs.Desk.{State, idle, Table, After, goes, closes, stops, applying}
 use Rattle.sheet.specs.Sheets.{Reading, ended, closed, turning, reading, table_from, Closing, closed_at, Run, following, running, run_from}
 use Rattle.sheet.specs.Laws.{Read, read_of, from, going_on, OneByOne}
@@ -33,7 +33,8 @@ commands : (on : ℕ → State → Run) (on' : ℕ → State → Reading) (go : 
     read_of (running on p st f) ≡ going_on go (reading on' true p st f)
 commands on on' go p st nothing e f = refl
 commands on on' go p st (wrong w) e f = refl
-commands on on' go p st (found w n) e f = follows (on n) (on' n) go p (p + 1 + n) (applying true st w) (e n) (f n)
+commands on on' go p st (found c os) e f =
+    let n = operand_bytes c in follows (on n) (on' n) go p (p + 1 + n) (applying true st (saying c os)) (e n) (f n)
 
 agree : (s bs : List ℕ) (skip p : ℕ) (st : State) → drop p s ≡ bs →
     read_of (run_from skip p st bs) ≡ going_on (from s) (table_from true skip p st bs)
@@ -59,9 +60,10 @@ read_on : (on : ℕ → State → Reading) (room : Bool) (p place after : ℕ) (
     closed t place after ≡ reading on room p st f → ((n : ℕ) (st : State) → closed t place after ≡ on n st → p < after) → p < after
 read_on on room p place after st t nothing e f = absurd (cc)
 read_on on room p place after st t (wrong w) e f = absurd (cc)
-read_on on room p place after st t (found w n) e f =
+read_on on room p place after st t (found c os) e f =
+    let n = operand_bytes c in
     let l : p < p + 1 + n = omega arith in
-    turned_on (on n) p (p + 1 + n) place after t (applying room st w) l e (f n)
+    turned_on (on n) p (p + 1 + n) place after t (applying room st (saying c os)) l e (f n)
 
 advances : (room : Bool) (bs : List ℕ) (skip p place after : ℕ) (st : State) (t : Table) →
     closed t place after ≡ table_from room skip p st bs → p < after

@@ -5,7 +5,7 @@ use Rattle.std.proofs.lemmas.Bool.{cases_lt}
 use Rattle.fault.specs.Refusals.{refused}
 use Rattle.sheet.specs.declared.command.Code.{Code}
 use Rattle.sheet.specs.Faults.{Why, rule, memory}
-use Rattle.sheet.specs.Commands.{Found, nothing, found, wrong, code_of, coded, decode, at, Stepped, end, next, refuses, Said}
+use Rattle.sheet.specs.Commands.{Found, nothing, found, wrong, code_of, coded, decode, at, Stepped, end, next, refuses}
 use Rattle.sheet.specs.Commands.{operand_bytes, saying}
 use Rattle.sheet.specs.Desk.{State, idle, room_for, Table, After, goes, closes, stops, applying}
 use Rattle.sheet.proofs.Desks.{starved_idle, kept_open}
@@ -23,7 +23,7 @@ skipped room (suc k) p st (b ∷ bs) =
 -- One step, by what stands at the place.
 abbrev pub stepping : (ℕ → State → Reading) → Bool → State → Stepped → Reading
 stepping on room st end = ended
-stepping on room st (next place s after) = turning (on after) place after (applying room st s)
+stepping on room st (next place c os after) = turning (on after) place after (applying room st (saying c os))
 stepping on room st (refuses w place) = broken w place
 
 turns : (on on' : State → Reading) (place after : ℕ) (a : After) → ((st : State) → on st ≡ on' st) →
@@ -35,7 +35,8 @@ turns on on' place after (stops w st) e = refl
 steps : (on on' : ℕ → State → Reading) (room : Bool) (place : ℕ) (st : State) (f : Found) →
     ((n : ℕ) (st : State) → on n st ≡ on' (place + 1 + n) st) → reading on room place st f ≡ stepping on' room st (at place f)
 steps on on' room place st nothing e = refl
-steps on on' room place st (found s n) e = turns (on n) (on' (place + 1 + n)) place (place + 1 + n) (applying room st s) (e n)
+steps on on' room place st (found c os) e =
+    let n = operand_bytes c in turns (on n) (on' (place + 1 + n)) place (place + 1 + n) (applying room st (saying c os)) (e n)
 steps on on' room place st (wrong w) e = refl
 
 -- What is left after the byte at a place, and some operands.
@@ -71,18 +72,19 @@ past : (s : List ℕ) (i : ℕ) → length s ≤ i → at i (decode (drop i s)) 
 past s i h = ap (at i) (at_drop_all decode s i h)
 
 -- Where a command stands, and how far it reaches.
-nexts : (i p : ℕ) (w : Said) (after : ℕ) (f : Found) → next p w after ≡ at i f → (p ≡ i) × (i < after)
-nexts i p w after nothing e = absurd (cc)
-nexts i p w after (found s n) e = let ends : after ≡ i + 1 + n = cc in (cc, omega arith)
-nexts i p w after (wrong y) e = absurd (cc)
+nexts : (i p : ℕ) (c : Code) (os : List ℕ) (after : ℕ) (f : Found) → next p c os after ≡ at i f → (p ≡ i) × (i < after)
+nexts i p c os after nothing e = absurd (cc)
+nexts i p c os after (found c' os') e = let ends : after ≡ i + 1 + operand_bytes c' = cc in (cc, omega arith)
+nexts i p c os after (wrong y) e = absurd (cc)
 
-pub here : (s : List ℕ) (i p after : ℕ) (w : Said) → next p w after ≡ at i (decode (drop i s)) → p ≡ i
-here s i p after w e = (nexts i p w after (decode (drop i s)) e).0
+pub here : (s : List ℕ) (i p after : ℕ) (c : Code) (os : List ℕ) → next p c os after ≡ at i (decode (drop i s)) → p ≡ i
+here s i p after c os e = (nexts i p c os after (decode (drop i s)) e).0
 
 -- What is left falls with each command.
-pub falls : (s : List ℕ) (i p after : ℕ) (w : Said) → next p w after ≡ at i (decode (drop i s)) → length s - after < length s - i
-falls s i p after w e =
-    ⊎_elim (λ inside. omega (arith, (nexts i p w after (decode (drop i s)) e).1)) (λ out. absurd (none out)) (cases_lt i (length s))
+pub falls : (s : List ℕ) (i p after : ℕ) (c : Code) (os : List ℕ) → next p c os after ≡ at i (decode (drop i s)) →
+    length s - after < length s - i
+falls s i p after c os e =
+    ⊎_elim (λ inside. omega (arith, (nexts i p c os after (decode (drop i s)) e).1)) (λ out. absurd (none out)) (cases_lt i (length s))
   where
     none : length s ≤ i → ⊥
     none out = let z = e ∙ past s i out in cc
@@ -90,13 +92,13 @@ falls s i p after w e =
 -- No byte wants memory.
 wrong_room : Found → Bool
 wrong_room nothing = true
-wrong_room (found s n) = true
+wrong_room (found c os) = true
 wrong_room (wrong w) = room_for w
 
-operands_room : (b : Bool) (s : Said) (n : ℕ) → wrong_room (cond b (found s n) (wrong (rule (refused 11 [])))) ≡ true
+operands_room : (b : Bool) (c : Code) (os : List ℕ) → wrong_room (cond b (found c os) (wrong (rule (refused 11 [])))) ≡ true
 unfolding wrong_room
-operands_room true s n = refl
-operands_room false s n = refl
+operands_room true c os = refl
+operands_room false c os = refl
 
 decode_room : (bs : List ℕ) → wrong_room (decode bs) ≡ true
 unfolding wrong_room
@@ -105,12 +107,12 @@ decode_room (b ∷ rest) = coded_room (code_of b)
   where
     coded_room : (o : Option Code) → wrong_room (coded o rest) ≡ true
     coded_room None = refl
-    coded_room (Some c) = operands_room (leb (operand_bytes c) (length rest)) (saying c (take (operand_bytes c) rest)) (operand_bytes c)
+    coded_room (Some c) = operands_room (leb (operand_bytes c) (length rest)) c (take (operand_bytes c) rest)
 
 wrong_has_room : (i p : ℕ) (y : Why) (f : Found) → wrong_room f ≡ true → refuses y p ≡ at i f → room_for y ≡ true
 unfolding wrong_room
 wrong_has_room i p y nothing h e = absurd (cc)
-wrong_has_room i p y (found s n) h e = absurd (cc)
+wrong_has_room i p y (found c os) h e = absurd (cc)
 wrong_has_room i p y (wrong w) h e = let same : y ≡ w = cc in ap room_for same ∙ h
 
 module _ (s : List ℕ) (place i : ℕ) (st : State) (r : Reads s place i st) where
@@ -118,23 +120,24 @@ module _ (s : List ℕ) (place i : ℕ) (st : State) (r : Reads s place i st) wh
   at_end e = sym (table_step true s i st end e) ∙ r.same
 
   -- the answer of a command, with room or without
-  answer : (room : Bool) (p after : ℕ) (w : Said) (a : After) → next p w after ≡ at i (decode (drop i s)) → a ≡ applying room st w →
+  answer : (room : Bool) (p after : ℕ) (c : Code) (os : List ℕ) (a : After) → next p c os after ≡ at i (decode (drop i s)) →
+      a ≡ applying room st (saying c os) →
       turning (λ st. table_from room 0 after st (drop after s)) i after a ≡ table_from room 0 i st (drop i s)
-  answer room p after w a e f =
-      ap (λ q. turning (λ st. table_from room 0 after st (drop after s)) q after a) (sym (here s i p after w e)) ∙
+  answer room p after c os a e f =
+      ap (λ q. turning (λ st. table_from room 0 after st (drop after s)) q after a) (sym (here s i p after c os e)) ∙
       ap (turning (λ st. table_from room 0 after st (drop after s)) p after) f ∙
-      sym (table_step room s i st (next p w after) e)
+      sym (table_step room s i st (next p c os after) e)
 
-  pub at_close : (p after : ℕ) (w : Said) (t : Table) → next p w after ≡ at i (decode (drop i s)) → closes t ≡ applying true st w →
-      closed t i after ≡ table_from true 0 place idle (drop place s)
-  at_close p after w t e a = answer true p after w (closes t) e a ∙ r.same
+  pub at_close : (p after : ℕ) (c : Code) (os : List ℕ) (t : Table) → next p c os after ≡ at i (decode (drop i s)) →
+      closes t ≡ applying true st (saying c os) → closed t i after ≡ table_from true 0 place idle (drop place s)
+  at_close p after c os t e a = answer true p after c os (closes t) e a ∙ r.same
 
-  pub at_stop : (p after : ℕ) (w : Said) (y : Why) (st' : State) → next p w after ≡ at i (decode (drop i s)) →
-      stops y st' ≡ applying (room_for y) st w → broken y i ≡ table_from (room_for y) 0 place idle (drop place s)
-  at_stop p after w (rule known) st' e a = answer true p after w (stops (rule known) st') e a ∙ r.same
-  at_stop p after w memory st' e a =
-      let none : st ≡ idle = starved_idle false st st' w a in
-      answer false p after w (stops memory st') e a ∙
+  pub at_stop : (p after : ℕ) (c : Code) (os : List ℕ) (y : Why) (st' : State) → next p c os after ≡ at i (decode (drop i s)) →
+      stops y st' ≡ applying (room_for y) st (saying c os) → broken y i ≡ table_from (room_for y) 0 place idle (drop place s)
+  at_stop p after c os (rule known) st' e a = answer true p after c os (stops (rule known) st') e a ∙ r.same
+  at_stop p after c os memory st' e a =
+      let none : st ≡ idle = starved_idle false st st' (saying c os) a in
+      answer false p after c os (stops memory st') e a ∙
       ap (λ x. table_from false 0 i x (drop i s)) none ∙
       ap (λ k. table_from false 0 k idle (drop k s)) (r.first none)
 
@@ -144,9 +147,9 @@ module _ (s : List ℕ) (place i : ℕ) (st : State) (r : Reads s place i st) wh
       sym (table_step true s i st (refuses y p) e) ∙ r.same ∙
       ap (λ b. table_from b 0 place idle (drop place s)) (sym (wrong_has_room i p y (decode (drop i s)) (decode_room (drop i s)) e))
 
-  pub again : (p after : ℕ) (w : Said) (st' : State) → next p w after ≡ at i (decode (drop i s)) → goes st' ≡ applying true st w →
-      Reads s place after st'
-  again p after w st' e a = record {
-    same = answer true p after w (goes st') e a ∙ r.same;
-    first = λ none. absurd (kept_open true st st' w a none);
+  pub again : (p after : ℕ) (c : Code) (os : List ℕ) (st' : State) → next p c os after ≡ at i (decode (drop i s)) →
+      goes st' ≡ applying true st (saying c os) → Reads s place after st'
+  again p after c os st' e a = record {
+    same = answer true p after c os (goes st') e a ∙ r.same;
+    first = λ none. absurd (kept_open true st st' (saying c os) a none);
   }

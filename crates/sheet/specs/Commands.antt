@@ -1,11 +1,12 @@
 -- The format of a sheet's commands. Definitions only.
-use Rattle.std.specs.Prelude.{ℕ, ◌+◌, cond, List, [], ◌∷◌, length, take, Some, None, Ok, Err, Option, Result, ◌==◌, nat_le}
+use Rattle.std.specs.Prelude.{ℕ, ◌+◌, cond, List, [], ◌∷◌, length, take, Some, None, Ok, Err, Option, Result, ok_or, ◌==◌, nat_le}
 use Rattle.fault.specs.Refusals.{refused}
 use Rattle.sheet.specs.declared.command.Code.{Code}
 use Rattle.sheet.specs.declared.command.Code.TheVariants as code
 use Rattle.sheet.specs.declared.command.Command.{Command}
 use Rattle.sheet.specs.declared.command.Command.TheVariants as command
 use Rattle.sheet.specs.declared.command.Next.{Next}
+use Rattle.sheet.specs.declared.operands.Operands.{Operands}
 use Rattle.sheet.specs.declared.sheet_fault.Refusal.{Refusal}
 use Rattle.sheet.specs.declared.sheet_fault.SheetFault.{SheetFault}
 use Rattle.sheet.specs.declared.sheet_fault.SheetFault.TheVariants as fault
@@ -34,12 +35,8 @@ code_of byte =
     (cond (byte == 7) (Some code.Vectors) None))))))
 
 -- The same as an answer: a byte that begins none is a fault.
-abbrev pub answered : Option Code → Result Code SheetFault
-answered None = Err fault.Command
-answered (Some c) = Ok c
-
 abbrev pub code_answer : ℕ → Result Code SheetFault
-code_answer byte = answered (code_of byte)
+code_answer byte = ok_or (code_of byte) fault.Command
 
 -- How many operand bytes follow.
 abbrev pub operand_bytes : Code → ℕ
@@ -61,16 +58,16 @@ saying code.Limit os = limit (field 0 4 os)
 saying code.Values os = values
 saying code.Vectors os = vectors
 
--- What stands at the front of the bytes that are left: nothing, a command with its count of operand bytes, or a fault.
+-- What stands at the front of the bytes that are left: nothing, a command with its operand bytes, or a fault.
 pub data Found : Type 0 where
   nothing : Found
-  found : Said → (operands : ℕ) → Found
+  found : Code → (operands : List ℕ) → Found
   wrong : Why → Found
 
 abbrev pub with_operands : Code → List ℕ → Found
 with_operands c rest =
     cond (nat_le (operand_bytes c) (length rest))
-    (found (saying c (take (operand_bytes c) rest)) (operand_bytes c))
+    (found c (take (operand_bytes c) rest))
     (wrong (rule (refused 11 [])))
 
 abbrev pub coded : Option Code → List ℕ → Found
@@ -84,36 +81,39 @@ decode (byte ∷ rest) = coded (code_of byte) rest
 -- The same with its place.
 pub data Stepped : Type 0 where
   end : Stepped
-  next : (place : ℕ) → Said → (after : ℕ) → Stepped
+  next : (place : ℕ) → Code → (operands : List ℕ) → (after : ℕ) → Stepped
   refuses : Why → (place : ℕ) → Stepped
 
 abbrev pub at : ℕ → Found → Stepped
 at place nothing = end
-at place (found s operands) = next place s (place + 1 + operands)
+at place (found c os) = next place c os (place + 1 + operand_bytes c)
 at place (wrong w) = refuses w place
 
 -- What the code's values mean.
-abbrev pub placed : Command → ℕ
-placed (command.Open os) = os.place
-placed (command.Entry os) = os.place
-placed (command.OutlineEntry os) = os.place
-placed (command.Tolerance os) = os.place
-placed (command.Limit os) = os.place
-placed (command.Values os) = os.place
-placed (command.Vectors os) = os.place
+abbrev pub code_in : Command → Code
+code_in (command.Open os) = code.Open
+code_in (command.Entry os) = code.Entry
+code_in (command.OutlineEntry os) = code.OutlineEntry
+code_in (command.Tolerance os) = code.Tolerance
+code_in (command.Limit os) = code.Limit
+code_in (command.Values os) = code.Values
+code_in (command.Vectors os) = code.Vectors
+
+abbrev pub operands_in : Command → Operands
+operands_in (command.Open os) = os
+operands_in (command.Entry os) = os
+operands_in (command.OutlineEntry os) = os
+operands_in (command.Tolerance os) = os
+operands_in (command.Limit os) = os
+operands_in (command.Values os) = os
+operands_in (command.Vectors os) = os
 
 abbrev pub said : Command → Said
-said (command.Open os) = saying code.Open os.bytes.now
-said (command.Entry os) = saying code.Entry os.bytes.now
-said (command.OutlineEntry os) = saying code.OutlineEntry os.bytes.now
-said (command.Tolerance os) = saying code.Tolerance os.bytes.now
-said (command.Limit os) = saying code.Limit os.bytes.now
-said (command.Values os) = saying code.Values os.bytes.now
-said (command.Vectors os) = saying code.Vectors os.bytes.now
+said c = saying (code_in c) (operands_in c).bytes.now
 
 abbrev pub next_of : Option Next → Stepped
 next_of None = end
-next_of (Some n) = next (placed n.command) (said n.command) n.after
+next_of (Some n) = next (operands_in n.command).place (code_in n.command) (operands_in n.command).bytes.now n.after
 
 abbrev pub stepped : Result (Option Next) Refusal → Stepped
 stepped (Ok o) = next_of o

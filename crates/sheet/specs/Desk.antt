@@ -8,7 +8,7 @@ use Rattle.scalar.specs.ComplexOps.{complex_ops, complex_of}
 use Rattle.scalar.specs.declared.point.Complex.{Complex}
 use Rattle.job.specs.Shown.{typed}
 use Rattle.job.specs.Typed.{Typed, Outcome, putting, tolerating, limiting}
-use Rattle.job.specs.Opening.{Opening, made, turned, starved, opened}
+use Rattle.job.specs.Opening.{Opening, made, declined, starved, opened}
 use Rattle.sheet.specs.declared.desk.Asked.{Asked}
 use Rattle.sheet.specs.declared.desk.Asked.TheVariants.{Values, Vectors}
 use Rattle.sheet.specs.declared.desk.Desk.{Desk}
@@ -67,7 +67,7 @@ on_outline o = typing o.0 (outline o.1)
 
 abbrev pub starting : {C : Type 0} → (Typed C Float → State) → Opening C Float → After
 starting st (made j) = goes (st j)
-starting st (turned known) = stops (rule known) idle
+starting st (declined known) = stops (rule known) idle
 starting st starved = stops memory idle
 
 -- 01: a kind and a side, only while no table is open. `room` says whether there is memory for a table.
@@ -157,11 +157,13 @@ abbrev pub begun : Result Open SheetFault → After
 begun (Ok t) = goes (state_of t)
 begun (Err fault) = stops (why fault) idle
 
--- Whether there was memory: only want of it says no.
+-- Whether a refusal is other than want of memory. It tests the answer and not the memory: want of memory is open wherever a table
+-- is opened of a lawful kind and side.
 abbrev pub room_for : Why → Bool
 room_for (rule known) = true
 room_for memory = false
 
+-- The same of what a command comes to.
 abbrev pub roomy : After → Bool
 roomy (goes st) = true
 roomy (closes t) = true

@@ -55,11 +55,11 @@ later n (Some x) = Some (stop x.why (n + x.place))
 abbrev pub closed_later : ℕ → Closing → Closing
 closed_later n c = closed_at c.table (n + c.place)
 
-abbrev pub in_turn : Run → ℕ → Run → Run
-in_turn a n b = record { tables = a.tables ++ map (closed_later n) b.tables; desk = b.desk; refusal = later n b.refusal }
+abbrev pub joined : Run → ℕ → Run → Run
+joined a n b = record { tables = a.tables ++ map (closed_later n) b.tables; desk = b.desk; refusal = later n b.refusal }
 
 abbrev pub Joins : List ℕ → Type 0
-Joins s = (t : List ℕ) → ClosesAll (run s) → run (s ++ t) ≡ in_turn (run s) (length s) (run t)
+Joins s = (t : List ℕ) → ClosesAll (run s) → run (s ++ t) ≡ joined (run s) (length s) (run t)
 
 -- What is read of a sheet: its closed tables and its refusal.
 pub record Read : Type 0 where

@@ -14,7 +14,8 @@ abbrev pub reading_of : Result (Option Answer) Refusal → Reading
 reading_of (Ok o) = answer_of o
 reading_of (Err r) = broken (why r.fault) r.place
 
--- Whether there was memory: only want of it says no.
+-- Whether the answer is other than want of memory. It tests the answer and not the memory: want of memory is open wherever the sheet
+-- opens a table of a lawful kind and side.
 abbrev pub had_room : Reading → Bool
 had_room ended = true
 had_room (closed t place after) = true

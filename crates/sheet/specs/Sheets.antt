@@ -1,7 +1,7 @@
 -- A sheet, read byte by byte. Definitions only.
 use Rattle.std.specs.Prelude.{ℕ, zero, suc, ◌+◌, Bool, true, List, [], ◌∷◌, Some, None, Option}
 use Rattle.sheet.specs.Faults.{Why}
-use Rattle.sheet.specs.Commands.{Found, nothing, found, wrong, code_of, coded}
+use Rattle.sheet.specs.Commands.{Found, nothing, found, wrong, code_of, coded, operand_bytes, saying}
 use Rattle.sheet.specs.Desk.{State, idle, Table, After, goes, closes, stops, applying}
 
 -- Reading on until a table is closed: the sheet ends first, the table with the place of the command that closed it and the place
@@ -18,7 +18,8 @@ turning on place after (stops w st) = broken w place
 
 abbrev pub reading : (ℕ → State → Reading) → Bool → ℕ → State → Found → Reading
 reading on room place st nothing = ended
-reading on room place st (found s operands) = turning (on operands) place (place + 1 + operands) (applying room st s)
+reading on room place st (found c os) =
+    turning (on (operand_bytes c)) place (place + 1 + operand_bytes c) (applying room st (saying c os))
 reading on room place st (wrong w) = broken w place
 
 -- The bytes from a place on, of which the first `skip` are operands of the command before. `room` says whether there is
@@ -54,20 +55,20 @@ pub record Run : Type 0 where
 abbrev pub rests : State → Run
 rests st = record { tables = []; desk = st; refusal = None }
 
-abbrev pub before : Closing → Run → Run
-before c r = record { tables = c ∷ r.tables; desk = r.desk; refusal = r.refusal }
+abbrev pub closed_then : Closing → Run → Run
+closed_then c r = record { tables = c ∷ r.tables; desk = r.desk; refusal = r.refusal }
 
 abbrev pub halts : Why → ℕ → State → Run
 halts w place st = record { tables = []; desk = st; refusal = Some (stop w place) }
 
 abbrev pub following : (State → Run) → ℕ → After → Run
 following on place (goes st) = on st
-following on place (closes t) = before (closed_at t place) (on idle)
+following on place (closes t) = closed_then (closed_at t place) (on idle)
 following on place (stops w st) = halts w place st
 
 abbrev pub running : (ℕ → State → Run) → ℕ → State → Found → Run
 running on place st nothing = rests st
-running on place st (found s operands) = following (on operands) place (applying true st s)
+running on place st (found c os) = following (on (operand_bytes c)) place (applying true st (saying c os))
 running on place st (wrong w) = halts w place st
 
 -- The bytes from a place on, of which the first `skip` are operands of the command before, where memory suffices.

@@ -1,6 +1,6 @@
 // Commands: each borrows its operand bytes from the sheet and carries the place of its byte.
 ghost use Rattle.std.specs.Prelude.{◌≡◌, drop};
-ghost use Rattle.sheet.specs.Commands.{at, code_answer, decode, operand_bytes, placed, said, saying, stepped};
+ghost use Rattle.sheet.specs.Commands.{at, code_answer, code_in, decode, operand_bytes, operands_in, stepped};
 
 use crate::bytes::tail;
 use crate::operands::Operands;
@@ -72,8 +72,8 @@ impl Code {
     }
 
     fn command(self, operands: Operands<'_>) -> Command<'_>
-        ensures place { placed result ≡ operands.entry.place }
-        ensures said { said result ≡ saying self operands.entry.bytes.now }
+        ensures code { code_in result ≡ self }
+        ensures operands { operands_in result ≡ operands.entry }
     {
         match self {
             Code::Open => Command::Open(operands),

@@ -1,7 +1,7 @@
 use Rattle.std.proofs.Common.{◌≡◌, T, length, vec_len, subst, rules}
 use Rattle.std.proofs.lemmas.List.{with_items_is}
 use Rattle.job.specs.Shown.{typed}
-use Rattle.job.specs.Typed.{Typed, table_of, putting}
+use Rattle.job.specs.Typed.{Typed, typed_from, putting}
 use Rattle.job.proofs.Gathers.{putting_gathered}
 use Rattle.job.proofs.job.Job.put.Goals as goal
 
@@ -11,7 +11,7 @@ invariant_of-self-clause-gathered g c =
     let real = g.T.Real.RealScalar.real in
     let len : length c.write.new.cells ≡ vec_len j.cells = search rules in
     let e : ◌≡◌ {A = Typed g.row.T.Denot g.row.T-Real.Denot}
-    (table_of j.side c.write.new.cells j.tolerance j.limit c.larger-self.result)
+    (typed_from j.side c.write.new.cells j.tolerance j.limit c.larger-self.result)
     (putting g.T.Arithmetic.ops real (typed j) c.args.row c.args.column c.args.x).1 =
     search rules
     in
