@@ -37,6 +37,8 @@ impl<'a, T: Scalar> AllRows<'a, T> {
     pub fn new(width: usize, count: usize, cells: &'a mut [T]) -> AllRows<'a, T>
         ensures kept { all_rows T.ops.zero result.width result.count result.cells.now ≡
             all_rows T.ops.zero width count cells.old }
+        ensures cells { result.cells.now ≡ cells.old }
+        ensures same_slice { result.cells.ghost_name ≡ cells.entry.ghost_name }
     {
         match AllRows::<T>::check(width, count, cells.len()) {
             Ok(()) => AllRows {
