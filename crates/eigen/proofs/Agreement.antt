@@ -2,6 +2,7 @@
 use Rattle.std.proofs.Common.{◌≡◌, ℕ, ◌+◌, ◌-◌, ◌<◌, ◌≤◌, Bool, true, false, cond, ◌&&◌, eqb, leb, List, [], length, get_or, sym, refl, ap, ◌∙◌, arith}
 use Rattle.std.proofs.lemmas.List.{get_or-map}
 use Rattle.std.proofs.lemmas.Bool.{leb-true, le-leb, and_parts, and_from}
+use Rattle.fault.specs.Bounds.{limit_fits}
 use Rattle.fault.specs.Refusals.{Refusal, refused}
 use Rattle.scalar.specs.Ops.{Ops, RealOps}
 use Rattle.rows.specs.Turns.{Turn, turned_all}
@@ -9,7 +10,7 @@ use Rattle.rows.specs.Keepers.{Kept, Answer, given, denied}
 use Rattle.eigen.specs.Turnings.{kept_all}
 use Rattle.eigen.specs.Iterate.{settled, not_settled, iterate}
 use Rattle.eigen.specs.Runs.{Run, searched, pass_of, run_by, run_of}
-use Rattle.eigen.specs.Settles.{Task, allowed, unlawful, check_of, check_task, settle_by, settle_of}
+use Rattle.eigen.specs.Settles.{Task, unlawful, check_of, check_task, settle_by, settle_of}
 use Rattle.eigen.specs.Laws.{Start, Finish, finish_of, task_of, IsRun, Same, AnyKeeper, AnyLimit}
 use Rattle.eigen.proofs.Limits.{any_limit, counted}
 use Rattle.eigen.proofs.Turned.{turn_none}
@@ -74,9 +75,9 @@ check_allowed true false true d e = refl
 check_allowed true false false d e = absurd (never_free _ e)
 check_allowed false b c d e = absurd (never_free _ e)
 
--- a limit below one that is allowed is allowed, unless it is 0
-lower_allowed : (n m : ℕ) → allowed n ≡ true → 1 ≤ m → m ≤ n → allowed m ≡ true
-lower_allowed n m e h k =
+-- a limit below one that fits does so, unless it is 0
+lower_fits : (n m : ℕ) → limit_fits n ≡ true → 1 ≤ m → m ≤ n → limit_fits m ≡ true
+lower_fits n m e h k =
     let top : n ≤ 1000000 = leb-true n 1000000 (and_parts (leb 1 n) (leb n 1000000) e).1 in
     and_from (leb 1 m) (leb m 1000000) (le-leb 1 m h) (le-leb m 1000000 (omega arith))
 
@@ -87,19 +88,19 @@ module _ {R : Type 0} (ops : Ops R R) (real : RealOps R) where
   begun t limit passes (denied why) e = let z : ◌≡◌ {A = ℕ} 0 1 = cc in let no : ⊥ = omega arith in absurd no
 
   -- nor is it refused at another limit that is allowed
-  other_limit : (v o : ℕ) (tolerance : R) (n m w side : ℕ) → allowed m ≡ true → check_of ops real v o tolerance n w side ≡ free →
+  other_limit : (v o : ℕ) (tolerance : R) (n m w side : ℕ) → limit_fits m ≡ true → check_of ops real v o tolerance n w side ≡ free →
       check_of ops real v o tolerance m w side ≡ free
   other_limit v o tolerance n m w side ok e =
       ap (λ (b : Bool). check_by (eqb v side && eqb (o + 1) side) (unlawful ops real tolerance) b (eqb w side)) ok
-      ∙ check_other (eqb v side && eqb (o + 1) side) (unlawful ops real tolerance) (allowed n) (eqb w side) e
+      ∙ check_other (eqb v side && eqb (o + 1) side) (unlawful ops real tolerance) (limit_fits n) (eqb w side) e
 
   pub task_limit : (t : Task R) (n m passes : ℕ) → (settle_of ops real t n).answer ≡ settled passes →
-      (allowed m ≡ true → passes < m → settle_of ops real t m ≡ settle_of ops real t n)
+      (limit_fits m ≡ true → passes < m → settle_of ops real t m ≡ settle_of ops real t n)
       × (1 ≤ m → m ≤ passes → (settle_of ops real t m).answer ≡ not_settled m)
   unfolding settle_of
   task_limit t n m passes e =
       let at_n : check_task ops real t n ≡ free = begun t n passes (check_task ops real t n) e in
-      let at_m : allowed m ≡ true → check_task ops real t m ≡ free =
+      let at_m : limit_fits m ≡ true → check_task ops real t m ≡ free =
       λ ok. other_limit (length t.values) (length t.offs) t.tolerance n m t.width t.side ok at_n in
       let start = searched ops real t.tolerance t.values t.offs (t.side - 1) in
       let step = pass_of ops real t.tolerance in
@@ -107,13 +108,13 @@ module _ {R : Type 0} (ops : Ops R R) (real : RealOps R) where
       sym (ap (λ (a : Answer (Unit {0})). (settle_by ops real t n a).answer) at_n) ∙ e in
       let other = any_limit step n m 0 passes start settles in
       let below : passes < 0 + n = (counted step n 0 passes start settles).1 in
-      let ok_n : allowed n ≡ true = check_allowed (eqb (length t.values) t.side && eqb (length t.offs + 1) t.side)
-      (unlawful ops real t.tolerance) (allowed n) (eqb t.width t.side) at_n in
+      let ok_n : limit_fits n ≡ true = check_allowed (eqb (length t.values) t.side && eqb (length t.offs + 1) t.side)
+      (unlawful ops real t.tolerance) (limit_fits n) (eqb t.width t.side) at_n in
       let z : 0 + m ≡ m = omega arith in (
         λ ok h. ap (settle_by ops real t m) (at_m ok) ∙ ap (run_by ops t.largest) (other.0 (omega arith))
             ∙ sym (ap (settle_by ops real t n) at_n),
         λ least h.
-            ap (λ (a : Answer (Unit {0})). (settle_by ops real t m a).answer) (at_m (lower_allowed n m ok_n least (omega arith)))
+            ap (λ (a : Answer (Unit {0})). (settle_by ops real t m a).answer) (at_m (lower_fits n m ok_n least (omega arith)))
             ∙ other.1 (omega arith) ∙ ap not_settled z,
       )
 
@@ -139,9 +140,9 @@ module _ {C R : Type 0} (ops : Ops C R) (rops : Ops R R) (real : RealOps R) wher
         answer = r.answer ∙ sym (ap (λ (x : Run R). x.answer) run) ∙ sym q.answer;
         values = r.values ∙ sym (ap (λ (x : Run R). x.values) run) ∙ sym q.values;
         offs = r.offs ∙ sym (ap (λ (x : Run R). x.offs) run) ∙ sym q.offs;
-        rows = ap (λ (x : Kept C). x.rows)
-            (r.kept ∙ sym (ap (λ (x : Run R). kept_all ops x.turns s.kept) run)
-            ∙ ap (kept_all ops (settle_of rops real (task_of t) m).turns) kept ∙ sym q.kept);
+        kept =
+            r.kept ∙ sym (ap (λ (x : Run R). kept_all ops x.turns s.kept) run)
+            ∙ ap (kept_all ops (settle_of rops real (task_of t) m).turns) kept ∙ sym q.kept;
       }
 
   -- a run refused before it began, and one that was not

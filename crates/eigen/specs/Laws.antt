@@ -1,10 +1,11 @@
 -- The laws of whole runs: what a run starts from, how it ends, and what two runs have in common. Definitions only.
 use Rattle.std.specs.Prelude.{◌≡◌, ℕ, ◌<◌, ◌≤◌, true, List, [], length, slice_index_or}
 use Rattle.scalar.specs.Ops.{Ops, RealOps}
+use Rattle.fault.specs.Bounds.{limit_fits}
 use Rattle.rows.specs.Keepers.{Kept, Answer}
 use Rattle.eigen.specs.Turnings.{kept_all}
 use Rattle.eigen.specs.Iterate.{settled, not_settled}
-use Rattle.eigen.specs.Settles.{Task, allowed, settle_of}
+use Rattle.eigen.specs.Settles.{Task, settle_of}
 use Rattle.tridiagonal.specs.declared.reduction.Reduction.{Reduction}
 use Rattle.tridiagonal.specs.Householder.{kind}
 use Rattle.tridiagonal.specs.Outcome.{Reduced}
@@ -86,12 +87,12 @@ pub record Agree {C R : Type 0} (s t : Start C R) (f g : Finish C R) : Type 0 wh
   pub rows : (i j : ℕ) → i < length s.kept.rows → j < length t.kept.rows →
       slice_index_or s.kept.rows i [] ≡ slice_index_or t.kept.rows j [] → slice_index_or f.kept.rows i [] ≡ slice_index_or g.kept.rows j []
 
--- two runs get the same answer and leave the same of everything
+-- two runs get the same answer and leave the same of everything, the keepers' widths and rows included
 pub record Same {C R : Type 0} (f g : Finish C R) : Type 0 where
   pub answer : f.answer ≡ g.answer
   pub values : f.values ≡ g.values
   pub offs : f.offs ≡ g.offs
-  pub rows : f.kept.rows ≡ g.kept.rows
+  pub kept : f.kept ≡ g.kept
 
 -- a run that takes what a reduction of side n and this largest size left, with a keeper of that side
 pub record Takes {C R : Type 0} (s : Start C R) (a : Reducing C R) (n : ℕ) (l : R) : Type 0 where
@@ -122,4 +123,4 @@ module _ {C R : Type 0} (ops : Ops C R) (rops : Ops R R) (real : RealOps R) wher
   -- them it is not settled, with that limit as its count.
   unfoldable pub AnyLimit : Start C R → Finish C R → Type 0
   AnyLimit s f = (passes m : ℕ) (t : Start C R) (g : Finish C R) → f.answer ≡ settled passes → Alike s t → IsRun ops rops real t m g →
-      (allowed m ≡ true → passes < m → Same f g) × (1 ≤ m → m ≤ passes → g.answer ≡ not_settled m)
+      (limit_fits m ≡ true → passes < m → Same f g) × (1 ≤ m → m ≤ passes → g.answer ≡ not_settled m)

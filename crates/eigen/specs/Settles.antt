@@ -1,6 +1,7 @@
 -- Settling: what is refused before a run, and the run. Definitions only.
-use Rattle.std.specs.Prelude.{ℕ, ◌+◌, Bool, cond, not, ◌&&◌, ◌||◌, List, [], length, ◌==◌, nat_le}
+use Rattle.std.specs.Prelude.{ℕ, ◌+◌, Bool, cond, not, ◌&&◌, ◌||◌, List, [], length, ◌==◌}
 use Rattle.scalar.specs.Ops.{Ops, RealOps}
+use Rattle.fault.specs.Bounds.{limit_fits}
 use Rattle.fault.specs.Refusals.{refused}
 use Rattle.rows.specs.Keepers.{Answer, given, denied}
 use Rattle.eigen.specs.Runs.{Run, run_of}
@@ -14,10 +15,6 @@ pub record Task (R : Type 0) : Type 0 where
   pub tolerance : R
   pub width : ℕ
 
--- a limit is from 1 to 1,000,000
-abbrev pub allowed : ℕ → Bool
-allowed limit = nat_le 1 limit && nat_le limit 1000000
-
 module _ {R : Type 0} (ops : Ops R R) (real : RealOps R) where
   -- below zero or not finite
   abbrev pub unlawful : R → Bool
@@ -28,7 +25,7 @@ module _ {R : Type 0} (ops : Ops R R) (real : RealOps R) where
   check_of values offs tolerance limit width side =
       cond (values == side && offs + 1 == side)
       (cond (unlawful tolerance) (denied (refused 4 []))
-      (cond (allowed limit)
+      (cond (limit_fits limit)
       (cond (width == side) (given tt) (denied (refused 6 [])))
       (denied (refused 5 []))))
       (denied (refused 2 []))

@@ -2,12 +2,13 @@
 use Rattle.std.proofs.Common.{◌≡◌, ℕ, ◌+◌, ◌-◌, ◌*◌, ◌<◌, ◌≤◌, ◌⊎◌, Bool, true, false, ◌&&◌, ◌||◌, eqb, ltb, List, ◌++◌, length, get_or, sym, ap, ◌∙◌, ⊎_elim}
 use Rattle.std.proofs.lemmas.List.FromFn.{length-map-range_with_len}
 use Rattle.std.proofs.lemmas.Bool.{and_parts, eqb-true, ltb-true, ltb-false, cond-true, cond_both, cases_Bool}
+use Rattle.fault.specs.Bounds.{side_fits}
 use Rattle.rows.specs.Keepers.{Kept, Answer, given, outside, cell_at}
-use Rattle.rows.specs.Makes.{all_rows, all_rows_fit, counts_kept, width_fits, count_fits, row_of, rows_of, both, both_fit, either_cell, nothing}
+use Rattle.rows.specs.Makes.{all_rows, all_rows_fit, counts_kept, count_fits, row_of, rows_of, both, both_fit, either_cell, nothing}
 use Rattle.rows.proofs.Cells.{cell_in, cell_past, cell_at_first, cell_at_second}
 
 pub fit_length : (w n l : ℕ) → all_rows_fit w n l ≡ true → l ≡ w * n
-fit_length w n l e = eqb-true l (w * n) (and_parts (width_fits w && count_fits n) (eqb l (w * n)) e).1
+fit_length w n l e = eqb-true l (w * n) (and_parts (side_fits w && count_fits n) (eqb l (w * n)) e).1
 
 -- all rows of a slice
 module _ {C : Type 0} (d : C) (w n : ℕ) (cells : List C) where

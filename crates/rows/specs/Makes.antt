@@ -2,23 +2,20 @@
 use Rattle.std.specs.Prelude.{ℕ, ◌+◌, ◌-◌, ◌*◌, Bool, cond, ◌&&◌, ◌||◌, List, [], ◌++◌, map, length, get_or, set, ◌==◌, nat_le, nat_lt}
 use Rattle.std.specs.List.{range_with_len}
 use Rattle.scalar.specs.Ops.{Ops}
+use Rattle.fault.specs.Bounds.{side_fits}
 use Rattle.fault.specs.Refusals.{refused}
 use Rattle.rows.specs.Turns.{first, second}
 use Rattle.rows.specs.Keepers.{Kept, Answer, given, denied, cell_at}
-
--- from 1 to 512
-abbrev pub width_fits : ℕ → Bool
-width_fits width = nat_le 1 width && nat_le width 512
 
 -- width 0 and no rows: what is made against the check
 abbrev pub nothing : {C : Type 0} → Kept C
 nothing = record { width = 0; rows = [] }
 
 abbrev pub no_rows_check : ℕ → Answer (Unit {0})
-no_rows_check width = cond (width_fits width) (given tt) (denied (refused 1 []))
+no_rows_check width = cond (side_fits width) (given tt) (denied (refused 1 []))
 
 abbrev pub no_rows_width : ℕ → ℕ
-no_rows_width width = cond (width_fits width) width 0
+no_rows_width width = cond (side_fits width) width 0
 
 -- column by column: the entry of row r and column i stands at r + i * count
 abbrev pub row_of : {C : Type 0} → C → ℕ → ℕ → List C → ℕ → List C
@@ -38,7 +35,7 @@ abbrev pub count_fits : ℕ → Bool
 count_fits count = nat_le count 512
 
 abbrev pub all_rows_fit : ℕ → ℕ → ℕ → Bool
-all_rows_fit width count length = (width_fits width && count_fits count) && length == width * count
+all_rows_fit width count length = (side_fits width && count_fits count) && length == width * count
 
 -- the counts that a keeper of a slice has: they fit, or are width 0 and no rows
 abbrev pub counts_kept : ℕ → ℕ → ℕ → Bool
@@ -46,7 +43,7 @@ counts_kept width count length = all_rows_fit width count length || (width == 0 
 
 abbrev pub all_rows_check : ℕ → ℕ → ℕ → Answer (Unit {0})
 all_rows_check width count length =
-    cond (width_fits width && count_fits count)
+    cond (side_fits width && count_fits count)
     (cond (length == width * count) (given tt) (denied (refused 2 [])))
     (denied (refused 1 []))
 

@@ -6,8 +6,9 @@ use Rattle.std.proofs.lemmas.List.FromFn.{length-map-range_with_len}
 use Rattle.std.proofs.lemmas.List.{length-append}
 use Rattle.std.proofs.lemmas.List.Elements.{All-map, All-append}
 use Rattle.std.proofs.lemmas.Bool.{and_parts, leb-true, eqb-true, cond_both}
+use Rattle.fault.specs.Bounds.{side_fits}
 use Rattle.rows.specs.Keepers.{Kept, Sound}
-use Rattle.rows.specs.Makes.{all_rows, all_rows_fit, width_fits, count_fits, row_of, rows_of, both, both_fit, nothing}
+use Rattle.rows.specs.Makes.{all_rows, all_rows_fit, count_fits, row_of, rows_of, both, both_fit, nothing}
 
 -- of any width, with no rows
 pub no_rows_sound : {C : Type 0} (width : ℕ) → Sound {C = C} (record { width = width; rows = [] })
@@ -24,8 +25,8 @@ all_rows_sound {C} d width count cells =
     cond_both (all_rows_fit width count (length cells)) (record { width = width; rows = rows_of d width count cells }) nothing
     (λ k. Sound {C = C} k)
     (λ e.
-    let counts = (and_parts (width_fits width && count_fits count) (length cells == width * count) e).0 in
-    let few = leb-true count 512 (and_parts (width_fits width) (count_fits count) counts).1 in
+    let counts = (and_parts (side_fits width && count_fits count) (length cells == width * count) e).0 in
+    let few = leb-true count 512 (and_parts (side_fits width) (count_fits count) counts).1 in
     let all = length-map-range_with_len (row_of d width count cells) 0 count in
     record { few = omega arith; even = rows_even d width count cells })
     (λ e. no_rows_sound 0)

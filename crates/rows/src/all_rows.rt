@@ -1,7 +1,7 @@
 // A keeper of rows in a slice that is handed in, column by column.
-ghost use Rattle.std.specs.Prelude.{◌≡◌, ◌+◌, ◌*◌, true, length};
-ghost use Rattle.rows.specs.Keepers.{answered};
-ghost use Rattle.rows.specs.Makes.{all_rows, all_rows_check, counts_kept};
+ghost use Rattle.std.specs.Prelude.{◌≡◌, ◌+◌, ◌*◌, true, cond, length, OnErr};
+ghost use Rattle.rows.specs.Keepers.{answered, kept_turned, turn_answer};
+ghost use Rattle.rows.specs.Makes.{all_rows, all_rows_fit, all_rows_check, counts_kept};
 ghost use Rattle.rows.specs.Sounds.{all_rows_sound};
 
 use crate::columns::{entry, rotate};
@@ -37,6 +37,10 @@ impl<'a, T: Scalar> AllRows<'a, T> {
     pub fn new(width: usize, count: usize, cells: &'a mut [T]) -> AllRows<'a, T>
         ensures kept { all_rows T.ops.zero result.width result.count result.cells.now ≡
             all_rows T.ops.zero width count cells.old }
+        ensures width { result.width ≡ cond (all_rows_fit width count (length cells.old)) width 0 }
+        ensures count { result.count ≡ cond (all_rows_fit width count (length cells.old)) count 0 }
+        ensures cells { result.cells.now ≡ cells.old }
+        ensures same_slice { result.cells.ghost_name ≡ cells.entry.ghost_name }
     {
         match AllRows::<T>::check(width, count, cells.len()) {
             Ok(()) => AllRows {
@@ -75,7 +79,16 @@ impl<'a, T: Scalar> Keeper<T> for AllRows<'a, T> {
         Ok(entry(self.cells, self.count, row, column))
     }
 
-    fn turn(&mut self, turn: &Turn<T::Real>) -> Result<(), Fault> {
+    fn turn(&mut self, turn: &Turn<T::Real>) -> Result<(), Fault>
+        ensures answer { answered result ≡
+            turn_answer (all_rows T.ops.zero self.old.width self.old.count self.old.cells.now) turn.now.column }
+        ensures rows { all_rows T.ops.zero self.new.width self.new.count self.new.cells.now ≡
+            kept_turned T.ops turn.now (all_rows T.ops.zero self.old.width self.old.count self.old.cells.now) }
+        ensures width { self.new.width ≡ self.old.width }
+        ensures count { self.new.count ≡ self.old.count }
+        ensures untouched { OnErr result (self.new.cells.now ≡ self.old.cells.now) }
+        ensures same_slice { self.new.cells.ghost_name ≡ self.old.cells.ghost_name }
+    {
         if !turn.is_inside(self.width) {
             return Err(Fault::Column);
         }

@@ -53,6 +53,8 @@ impl<A, B> Both<A, B> {
         B: Keeper<T>,
         ensures kept { both (A.kept result.first) (B.kept result.second) ≡
             both (A.kept first) (B.kept second) }
+        ensures first { result.first ≡ first }
+        ensures second { result.second ≡ second }
     {
         Both { first, second }
     }
