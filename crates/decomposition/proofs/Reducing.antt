@@ -1,5 +1,6 @@
 -- What is known of a table that is reduced in buffers made for its side.
-use Rattle.std.proofs.Common.{◌≡◌, ℕ, ◌-◌, ◌*◌, ◌<◌, ◌≤◌, true, false, eqb, ltb, ◌⊎◌, List, [], length, Some, None, Option, sym, refl, ap, ◌∙◌, ⊎_elim}
+use Rattle.std.proofs.Common.{◌≡◌, ℕ, ◌-◌, ◌*◌, ◌<◌, ◌≤◌, true, false, eqb, ltb, ◌⊎◌, List, [], length, Some, None, Option, sym, refl, ap, ◌∙◌, ⊎_elim, arith}
+use Rattle.std.proofs.lemmas.Bool.Decides.{nat_tests}
 use Rattle.std.proofs.lemmas.Bool.{or_left, or_right, eq-eqb, lt-ltb, eqb-true, and_parts, cases_Bool}
 use Rattle.fault.specs.Refusals.{Refusal, refused}
 use Rattle.tridiagonal.specs.Checks.{side_refused, lengths_agree, reduce_refusal, refusal_for}
@@ -9,8 +10,12 @@ use Rattle.tridiagonal.specs.Reduce.{largest_size, reduced_table, values_of, off
 use Rattle.decomposition.specs.Solutions.{Form, table_refusal, reduced_form}
 use Rattle.decomposition.specs.Forms.{Fits}
 
+-- a side from 1 to 512
+pub lawful_side : (n : ℕ) → 0 < n → n ≤ 512 → side_refused n ≡ false
+lawful_side n some few = grind (arith, nat_tests)
+
 module _ {C R : Type 0} (K : Kind C R) (n : ℕ) (t : List C) where
-  side_refusal : side_refused n ≡ true → table_refusal K n t ≡ Some (refused 1 [])
+  pub side_refusal : side_refused n ≡ true → table_refusal K n t ≡ Some (refused 1 [])
   unfolding reduce_refusal
   side_refusal e = rw e
 

@@ -1,9 +1,11 @@
 // Reducing, assembling and settling one table.
-ghost use Rattle.std.specs.Prelude.{◌≡◌, ◌*◌, true, false, length, IfOk};
+ghost use Rattle.std.specs.Prelude.{◌≡◌, ◌*◌, [], true, false, length, IfOk};
+ghost use Rattle.fault.specs.Refusals.{refused};
 ghost use Rattle.rows.specs.Makes.{all_rows};
+ghost use Rattle.tridiagonal.specs.Checks.{side_refused};
 ghost use Rattle.tridiagonal.specs.Householder.{kind};
 ghost use Rattle.decomposition.specs.Forms.{Counts, Fits, form_of};
-ghost use Rattle.decomposition.specs.Solutions.{SameButVectors, given_room, had_room, settled_with, solution, solution_of};
+ghost use Rattle.decomposition.specs.Solutions.{SameButVectors, failed, given_room, had_room, settled_with, solution, solution_of};
 
 use crate::buffers::{columns_of, zeros};
 use crate::failure::Failure;
@@ -65,7 +67,7 @@ fn solved<T: Scalar, K: Keeper<T>>(
 
 // The eigenvalues of a table of side n, column by column, of which the lower triangle and the largest size are read.
 // The side, the tolerance and the limit stand apart, as `reduce` and `settle` take them.
-#[tactic(auto, using(crate::proofs::Whole::unformed))]
+#[tactic(auto, using(crate::proofs::Whole::unformed, crate::proofs::Whole::unformed_side))]
 pub fn symmetric_eigenvalues<T: Scalar>(
     heap: Global,
     n: usize,
@@ -75,6 +77,8 @@ pub fn symmetric_eigenvalues<T: Scalar>(
 ) -> Result<Solved<T>, Failure>
     ensures solution { solution_of result ≡ given_room (had_room result)
         (solution (kind T.ops T.Real.ops T.Real.real) false n table.items tolerance limit) }
+    // of a side that is refused no want of memory is told
+    ensures side { side_refused n ≡ true → solution_of result ≡ failed (refused 1 []) }
     ensures counts { IfOk result (Counts n 0) }
 {
     let form = reduced(heap, n, table)?;
@@ -83,7 +87,7 @@ pub fn symmetric_eigenvalues<T: Scalar>(
 }
 
 // The same with the eigenvectors.
-#[tactic(auto, using(crate::proofs::Whole::unformed, crate::proofs::Whole::same_values))]
+#[tactic(auto, using(crate::proofs::Whole::unformed, crate::proofs::Whole::unformed_side, crate::proofs::Whole::same_values))]
 pub fn symmetric_eigen<T: Scalar>(
     heap: Global,
     n: usize,
@@ -93,6 +97,8 @@ pub fn symmetric_eigen<T: Scalar>(
 ) -> Result<Solved<T>, Failure>
     ensures solution { solution_of result ≡ given_room (had_room result)
         (solution (kind T.ops T.Real.ops T.Real.real) true n table.items tolerance limit) }
+    // of a side that is refused no want of memory is told
+    ensures side { side_refused n ≡ true → solution_of result ≡ failed (refused 1 []) }
     ensures counts { IfOk result (Counts n (n * n)) }
     // the largest size, the passes, the values and the refusals are those of the values alone
     ensures same_values { SameButVectors (solution_of result) (given_room (had_room result)

@@ -6,7 +6,7 @@ use Rattle.tridiagonal.specs.Householder.{kind}
 use Rattle.decomposition.specs.Forms.{Counts, form_of}
 use Rattle.decomposition.specs.Solutions.{Form, given_room, had_room, solution_of}
 use Rattle.decomposition.proofs.Settling.{assembled, held_of_q, rows_held, settled_with_q, count_of_q}
-use Rattle.decomposition.proofs.Whole.{solves, same_values}
+use Rattle.decomposition.proofs.Whole.{solves, same_values, no_form}
 use Rattle.decomposition.proofs.solve.symmetric_eigen.Goals as goal
 
 pub returns : goal.returns
@@ -35,6 +35,7 @@ returns g c =
     ∙ solves K n (vec_items c.args.table) c.args.tolerance c.args.limit true f told.0 told.1) in
     record {
       solution = came;
+      side = λ refused. absurd (no_form K n (vec_items c.args.table) refused told.0);
       counts =
           subst (λ (k : ℕ). IfOk c.solved.result (Counts k (k * k))) side
           (subst (λ (k : ℕ). IfOk c.solved.result (Counts f.side (f.side * k))) (ap (λ (k : Kept _). length k.rows) held ∙ count_of_q K f)

@@ -3,7 +3,7 @@ use Rattle.tridiagonal.specs.Householder.{kind}
 use Rattle.decomposition.specs.Forms.{form_of}
 use Rattle.decomposition.specs.Solutions.{given_room, had_room}
 use Rattle.decomposition.proofs.Settling.{settled_with_none}
-use Rattle.decomposition.proofs.Whole.{solves}
+use Rattle.decomposition.proofs.Whole.{solves, no_form}
 use Rattle.decomposition.proofs.solve.symmetric_eigenvalues.Goals as goal
 
 pub returns-clause-solution : goal.returns-clause-solution
@@ -15,3 +15,8 @@ returns-clause-solution g c =
     ∙ ap (given_room (had_room c.solved.result))
     (settled_with_none K f c.args.tolerance c.args.limit c.new-keeper.result.width
     ∙ solves K c.args.n (vec_items c.args.table) c.args.tolerance c.args.limit false f told.0 told.1)
+
+pub returns-clause-side : goal.returns-clause-side
+returns-clause-side g c =
+    let K = kind g.T.Arithmetic.ops g.T.Real.Arithmetic.ops g.T.Real.RealScalar.real in
+    λ refused. absurd (no_form K c.args.n (vec_items c.args.table) refused c.in_ok-form.ensures.form.0)
