@@ -1,78 +1,45 @@
--- The proved cases, as one table: real tables by rows from the top, binary64. Definitions only.
-use Rattle.std.specs.Prelude.{◌≡◌, ℕ, ◌-◌, true, false, List, [], ◌∷◌, map, pos, negsuc, Some, None, Option, from_bits, Float}
+-- The proved cases, as one table: real tables column by column, binary64. Definitions only.
+use Rattle.std.specs.Prelude.{◌≡◌, ℕ, Bool, true, List, [], ◌∷◌, pos, negsuc, from_bits, Float, false}
 use Rattle.std.specs.Float.{binary64, fin}
 use Rattle.fault.specs.Refusals.{Refusal, refused}
-use Rattle.scalar.specs.FloatOps.{float_ops, float_real}
+use Rattle.scalar.specs.FloatOps.{float_ops}
 use Rattle.root.specs.Root.{root_of}
-use Rattle.rows.specs.Keepers.{Answer, given, denied}
-use Rattle.rows.specs.Makes.{rows_of}
-use Rattle.rows.specs.Turns.{Turn, turned, turn_of, turned_all}
+use Rattle.rows.specs.Turns.{Turn, turned, turn_of}
 use Rattle.rows.specs.declared.direction.Direction.TheVariants.{Forward}
-use Rattle.tridiagonal.specs.Householder.{Kind, kind}
-use Rattle.tridiagonal.specs.Assemble.{matrix_q}
-use Rattle.tridiagonal.specs.Checks.{reduce_refusal}
-use Rattle.tridiagonal.specs.Reduce.{largest_size, reduced_table, values_of, offs_of, signs_of}
-use Rattle.tridiagonal.specs.Tables.{lower}
-use Rattle.eigen.specs.Settles.{Task, settle_of}
-use Rattle.eigen.specs.Runs.{Run}
+use Rattle.decomposition.specs.Kinds.{r64}
+use Rattle.decomposition.specs.Solutions.{Solution, solved, failed, starved, solution}
 
-abbrev pub double : Kind Float Float
-double = kind (float_ops binary64) (float_ops binary64) (float_real binary64)
+-- solved in so many passes, with these values
+abbrev pub Settles : Solution Float Float → ℕ → List Float → Type 0
+Settles (solved e) passes values = (e.passes ≡ passes) × (e.values ≡ values)
+Settles (failed why) passes values = ⊥
+Settles starved passes values = ⊥
 
--- what comes of a table: the pass count or a refusal, the values, and the rows of Q turned along
-pub record Solved : Type 0 where
-  pub answer : Answer ℕ
-  pub values : List Float
-  pub rows : List (List Float)
-
-abbrev pub solution : Answer ℕ → List Float → List (List Float) → Solved
-solution answer values rows = record { answer = answer; values = values; rows = rows }
-
--- a run with all rows of Q
-abbrev pub with_rows : Run Float → List (List Float) → Solved
-with_rows r rows = solution r.answer r.values (map (turned_all (float_ops binary64) r.turns) rows)
-
-abbrev pub task : ℕ → List Float → Float → Task Float
-task n t tolerance = record {
-  side = n;
-  largest = largest_size double t;
-  values = values_of double n t;
-  offs = offs_of double n t;
-  tolerance = tolerance;
-  width = n;
-}
-
-abbrev pub assembled : ℕ → List Float → List Float
-assembled n t = matrix_q double n (lower n 0 n (reduced_table double n t)) (signs_of double n t)
-
-abbrev pub solve_by : Option Refusal → ℕ → List Float → Float → ℕ → Solved
-solve_by (Some why) n t tolerance limit = solution (denied why) [] []
-solve_by None n t tolerance limit =
-    with_rows (settle_of (float_ops binary64) (float_real binary64) (task n t tolerance) limit)
-    (rows_of (from_bits binary64 0) n n (assembled n t))
-
--- reduce, assemble and settle a table, column by column, whose buffers have the lengths that they should
-abbrev pub solve : ℕ → List Float → Float → ℕ → Solved
-solve n t tolerance limit = solve_by (reduce_refusal double n t n (n - 1) (n - 1) (n - 1)) n t tolerance limit
+-- and with these vectors
+abbrev pub SettlesWith : Solution Float Float → ℕ → List Float → List Float → Type 0
+SettlesWith (solved e) passes values vectors = (e.passes ≡ passes) × (e.values ≡ values) × (e.vectors ≡ vectors)
+SettlesWith (failed why) passes values vectors = ⊥
+SettlesWith starved passes values vectors = ⊥
 
 pub data Case : Type 0 where
   -- a table of this side, tolerance and limit is refused so
   refuses : (side : ℕ) (table : List Float) (tolerance : Float) (limit : ℕ) (why : Refusal) → Case
   -- it settles with these values in so many passes
   settles : (side : ℕ) (table : List Float) (tolerance : Float) (limit : ℕ) (values : List Float) (passes : ℕ) → Case
-  -- and with these rows
+  -- and with these vectors, column by column
   settles_with : (side : ℕ) (table : List Float) (tolerance : Float) (limit : ℕ) (values : List Float) (passes : ℕ)
-      (rows : List (List Float)) → Case
+      (vectors : List Float) → Case
   -- the root of a number
   roots : (v r : Float) → Case
   -- a row turned
   turns : (t : Turn Float) (row after : List Float) → Case
 
+-- Of a table: what its decomposition comes to, by the definition that `symmetric_eigenvalues` and `symmetric_eigen` promise.
 abbrev pub Holds : Case → Type 0
-Holds (refuses n t tolerance limit why) = (solve n t tolerance limit).answer ≡ denied why
-Holds (settles n t tolerance limit values passes) =
-    ((solve n t tolerance limit).answer ≡ given passes) × ((solve n t tolerance limit).values ≡ values)
-Holds (settles_with n t tolerance limit values passes rows) = solve n t tolerance limit ≡ solution (given passes) values rows
+Holds (refuses n t tolerance limit why) = (asked : Bool) → solution r64 asked n t tolerance limit ≡ failed why
+Holds (settles n t tolerance limit values passes) = (asked : Bool) → Settles (solution r64 asked n t tolerance limit) passes values
+Holds (settles_with n t tolerance limit values passes vectors) =
+    SettlesWith (solution r64 true n t tolerance limit) passes values vectors
 Holds (roots v r) = root_of binary64 v ≡ r
 Holds (turns t row after) = turned (float_ops binary64) t row ≡ after
 
@@ -99,7 +66,7 @@ fine = fin false 1 (negsuc 51)
 abbrev pub cases : List Case
 cases =
     refuses 0 [] fine 1 (refused 1 [])
-    ∷ settles_with 1 (minus 3 0 ∷ []) fine 1 (minus 3 0 ∷ []) 0 ((whole 1 0 ∷ []) ∷ [])
+    ∷ settles_with 1 (minus 3 0 ∷ []) fine 1 (minus 3 0 ∷ []) 0 (whole 1 0 ∷ [])
     ∷ settles 2 (o ∷ o ∷ o ∷ o ∷ []) fine 1 (o ∷ o ∷ []) 0
     ∷ refuses 2 (o ∷ whole 1 0 ∷ whole 1 0 ∷ o ∷ []) fine 1 (refused 7 (1 ∷ []))
     ∷ settles 2 (o ∷ whole 1 0 ∷ whole 1 0 ∷ o ∷ []) fine 2 (whole 1 0 ∷ minus 1 0 ∷ []) 1

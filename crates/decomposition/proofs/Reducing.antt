@@ -1,16 +1,35 @@
 -- What is known of a table that is reduced in buffers made for its side.
-use Rattle.std.proofs.Common.{◌≡◌, ℕ, ◌-◌, ◌*◌, ◌<◌, ◌≤◌, true, false, eqb, ltb, ◌⊎◌, List, [], length, Some, None, Option, sym, refl, ap, ◌∙◌, ⊎_elim}
-use Rattle.std.proofs.lemmas.Bool.{or_left, or_right, eq-eqb, lt-ltb, eqb-true, and_parts, cases_Bool}
+use Rattle.std.proofs.Common.{◌≡◌, ℕ, ◌-◌, ◌*◌, ◌<◌, ◌≤◌, true, false, eqb, ltb, ◌⊎◌, Bool, cond, List, [], length, Some, None, Option, sym, refl, ap, ◌∙◌, ⊎_elim, arith}
+use Rattle.std.proofs.lemmas.Bool.Decides.{nat_tests}
+use Rattle.std.proofs.lemmas.Bool.{or_left, or_right, eq-eqb, lt-ltb, eqb-true, and_parts}
 use Rattle.fault.specs.Refusals.{Refusal, refused}
-use Rattle.tridiagonal.specs.Checks.{side_refused, lengths_agree, reduce_refusal, refusal_for}
+use Rattle.tridiagonal.specs.Checks.{side_refused, lengths_agree, entry_refusal, reduce_refusal, refusal_for}
 use Rattle.tridiagonal.specs.Householder.{Kind}
 use Rattle.tridiagonal.specs.Outcome.{Reduced, reduce_outcome, unless_refused}
 use Rattle.tridiagonal.specs.Reduce.{largest_size, reduced_table, values_of, offs_of, signs_of}
 use Rattle.decomposition.specs.Solutions.{Form, table_refusal, reduced_form}
 use Rattle.decomposition.specs.Forms.{Fits}
 
+-- a side from 1 to 512
+pub lawful_side : (n : ℕ) → 0 < n → n ≤ 512 → side_refused n ≡ false
+lawful_side n some few = grind (arith, nat_tests)
+
+not_refused : {A : Type 0} (side long : Bool) (a b : A) (entries : Option A) →
+    cond side (Some a) (cond long entries (Some b)) ≡ None → long ≡ true
+not_refused true long a b entries none = absurd (cc)
+not_refused false false a b entries none = absurd (cc)
+not_refused false true a b entries none = refl
+
+-- where nothing is refused, the lengths are as stated
+pub lengths : {C R : Type 0} (K : Kind C R) (n : ℕ) (t : List C) (values offs signs scratch : ℕ) →
+    reduce_refusal K n t values offs signs scratch ≡ None → lengths_agree n (length t) values offs signs scratch ≡ true
+unfolding reduce_refusal
+lengths K n t values offs signs scratch none =
+    not_refused (side_refused n) (lengths_agree n (length t) values offs signs scratch) (refused 1 []) (refused 2 [])
+    (entry_refusal K n 0 t) none
+
 module _ {C R : Type 0} (K : Kind C R) (n : ℕ) (t : List C) where
-  side_refusal : side_refused n ≡ true → table_refusal K n t ≡ Some (refused 1 [])
+  pub side_refusal : side_refused n ≡ true → table_refusal K n t ≡ Some (refused 1 [])
   unfolding reduce_refusal
   side_refusal e = rw e
 
@@ -21,22 +40,9 @@ module _ {C R : Type 0} (K : Kind C R) (n : ℕ) (t : List C) where
       (⊎_elim (λ (z : n ≡ 0). or_left (eqb n 0) (ltb 512 n) (eq-eqb n 0 z))
       (λ (z : (n ≡ 0 → ⊥) × (512 < n)). or_right (eqb n 0) (ltb 512 n) (lt-ltb 512 n z.1)) way)
 
-  length_refusal : side_refused n ≡ false → lengths_agree n (length t) n (n - 1) (n - 1) (n - 1) ≡ false →
-      table_refusal K n t ≡ Some (refused 2 [])
-  unfolding reduce_refusal
-  length_refusal e f = rw (e, f)
-
   -- a table that is not refused is whole
   table_whole : table_refusal K n t ≡ None → length t ≡ n * n
-  table_whole none =
-      ⊎_elim (λ (e : side_refused n ≡ true). cc (side_refusal e))
-      (λ (e : side_refused n ≡ false).
-      ⊎_elim
-      (λ (f : lengths_agree n (length t) n (n - 1) (n - 1) (n - 1) ≡ true).
-      eqb-true (length t) (n * n) (and_parts (eqb (length t) (n * n)) _ f).0)
-      (λ (f : lengths_agree n (length t) n (n - 1) (n - 1) (n - 1) ≡ false). cc (length_refusal e f))
-      (cases_Bool (lengths_agree n (length t) n (n - 1) (n - 1) (n - 1))))
-      (cases_Bool (side_refused n))
+  table_whole none = eqb-true (length t) (n * n) (and_parts (eqb (length t) (n * n)) _ (lengths K n t n (n - 1) (n - 1) (n - 1) none)).0
 
 pub accepted : {R : Type 0} (o : Option Refusal) (a n : ℕ) (b l : R) → Reduced a b ≡ reduce_outcome o n l → (o ≡ None) × ((a ≡ n) × (b ≡ l))
 accepted None a n b l e = (refl, (cc, cc))

@@ -1,7 +1,8 @@
 -- A whole solution, from its form.
-use Rattle.std.proofs.Common.{◌≡◌, ℕ, Bool, true, false, List, Some, None, Err, sym, refl, subst}
-use Rattle.fault.specs.Refusals.{Refusal, refusal}
+use Rattle.std.proofs.Common.{◌≡◌, ℕ, Bool, true, false, List, [], Some, None, Option, Err, sym, refl, ap, ◌∙◌, subst}
+use Rattle.fault.specs.Refusals.{Refusal, refusal, refused}
 use Rattle.rows.specs.Keepers.{Answer, given, denied}
+use Rattle.tridiagonal.specs.Checks.{side_refused}
 use Rattle.tridiagonal.specs.Householder.{Kind}
 use Rattle.eigen.specs.Runs.{Run}
 use Rattle.eigen.specs.Settles.{settle_of}
@@ -9,6 +10,23 @@ use Rattle.decomposition.specs.declared.failure.Failure.{Failure}
 use Rattle.decomposition.specs.declared.failure.Failure.TheVariants.{Solver, Memory}
 use Rattle.decomposition.specs.Solutions.{Form, Solution, failed, ended, settled_form, unless_failed, task_of, table_refusal, reduced_form, solution, solution_of, had_room, given_room, SameButVectors}
 use Rattle.decomposition.specs.Forms.{Reduces}
+use Rattle.decomposition.proofs.Reducing.{side_refusal}
+
+-- what is known of a side that is refused
+module _ {C R : Type 0} (K : Kind C R) (n : ℕ) (t : List C) (side : side_refused n ≡ true) where
+  -- what is handed on where there is no form is the side's refusal
+  pub unformed_side : (e : Failure) → Reduces K n t (Err e) → ◌≡◌ {A = Solution C R} (solution_of (Err e)) (failed (refused 1 []))
+  unformed_side (Solver fault) h =
+      let told : ◌≡◌ {A = Option Refusal} (Some (refusal fault)) (Some (refused 1 [])) = sym h ∙ side_refusal K n t side in
+      let is : refusal fault ≡ refused 1 [] = cc in
+      ap failed is
+  unformed_side Memory h = absurd (cc)
+
+  -- there is no form
+  pub no_form : table_refusal K n t ≡ None → ⊥
+  no_form none =
+      let no : ◌≡◌ {A = Option Refusal} None (Some (refused 1 [])) = sym none ∙ side_refusal K n t side in
+      absurd (cc)
 
 module _ {C R : Type 0} (K : Kind C R) (n : ℕ) (t : List C) (tolerance : R) (limit : ℕ) where
   pub solves : (asked : Bool) (f : Form C R) → table_refusal K n t ≡ None → f ≡ reduced_form K n t →

@@ -1,6 +1,7 @@
 -- What the steps of a decomposition hand on. Definitions only.
-use Rattle.std.specs.Prelude.{◌≡◌, ℕ, ◌-◌, ◌*◌, ◌<◌, ◌≤◌, List, length, Some, None, Ok, Err, vec_items, Result}
+use Rattle.std.specs.Prelude.{◌≡◌, ℕ, ◌-◌, ◌*◌, ◌<◌, ◌≤◌, false, List, length, Some, None, Ok, Err, vec_items, Result}
 use Rattle.fault.specs.Refusals.{refusal}
+use Rattle.tridiagonal.specs.Checks.{side_refused}
 use Rattle.tridiagonal.specs.Householder.{Kind}
 use Rattle.decomposition.specs.declared.failure.Failure.{Failure}
 use Rattle.decomposition.specs.declared.failure.Failure.TheVariants.{Solver, Memory}
@@ -28,11 +29,11 @@ module _ {C R : Type 0} where
     pub offs : length f.offs ≡ f.side - 1
     pub signs : length f.signs ≡ f.side - 1
 
-  -- a form that fits, a refusal, or want of memory
+  -- a form that fits, a refusal, or want of memory, for which no side that is refused can ask
   abbrev pub Reduces : Kind C R → ℕ → List C → Result (Held C R) Failure → Type 0
   Reduces K n t (Ok h) = (table_refusal K n t ≡ None) × (form_of h ≡ reduced_form K n t) × Fits (form_of h)
   Reduces K n t (Err (Solver fault)) = table_refusal K n t ≡ Some (refusal fault)
-  Reduces K n t (Err Memory) = Unit {0}
+  Reduces K n t (Err Memory) = side_refused n ≡ false
 
   -- how many values and how many entries of vectors are given
   pub record Counts (m k : ℕ) (s : Solved C R) : Type 0 where

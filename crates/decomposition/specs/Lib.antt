@@ -1,2 +1,4 @@
+pub mod Kinds
+pub mod Laws
 pub mod Solutions
 pub mod Forms

@@ -1,9 +1,12 @@
 // Reducing, assembling and settling one table.
-ghost use Rattle.std.specs.Prelude.{◌≡◌, ◌*◌, true, false, length, IfOk};
+ghost use Rattle.std.specs.Prelude.{◌≡◌, ◌*◌, [], true, false, length, IfOk};
+ghost use Rattle.fault.specs.Refusals.{refused};
 ghost use Rattle.rows.specs.Makes.{all_rows};
+ghost use Rattle.tridiagonal.specs.Checks.{side_refused};
 ghost use Rattle.tridiagonal.specs.Householder.{kind};
 ghost use Rattle.decomposition.specs.Forms.{Counts, Fits, form_of};
-ghost use Rattle.decomposition.specs.Solutions.{SameButVectors, given_room, had_room, settled_with, solution, solution_of};
+ghost use Rattle.decomposition.specs.Laws.{Limits, LowerTriangle};
+ghost use Rattle.decomposition.specs.Solutions.{SameButVectors, failed, given_room, had_room, settled_with, solution, solution_of};
 
 use crate::buffers::{columns_of, zeros};
 use crate::failure::Failure;
@@ -36,6 +39,10 @@ fn solved<T: Scalar, K: Keeper<T>>(
     requires width { (K.kept keeper.old).width ≡ form.reduction.side }
     ensures solution { solution_of result ≡ given_room (had_room result)
         (settled_with (kind T.ops T.Real.ops T.Real.real) (K.kept keeper.old) (form_of form) tolerance limit) }
+    // handed on from `settle`, whether memory is wanting or not
+    ensures limits { Limits
+        (settled_with (kind T.ops T.Real.ops T.Real.real) (K.kept keeper.old) (form_of form) tolerance limit)
+        (settled_with (kind T.ops T.Real.ops T.Real.real) (K.kept keeper.old) (form_of form) tolerance) }
     ensures counts { IfOk result (Counts form.reduction.side (form.reduction.side * length (K.kept keeper.old).rows)) }
 {
     let Form {
@@ -65,7 +72,7 @@ fn solved<T: Scalar, K: Keeper<T>>(
 
 // The eigenvalues of a table of side n, column by column, of which the lower triangle and the largest size are read.
 // The side, the tolerance and the limit stand apart, as `reduce` and `settle` take them.
-#[tactic(auto, using(crate::proofs::Whole::unformed))]
+#[tactic(auto, using(crate::proofs::Whole::unformed, crate::proofs::Whole::unformed_side, crate::proofs::Limits::limits_unformed, crate::proofs::Lowers::lower_triangle))]
 pub fn symmetric_eigenvalues<T: Scalar>(
     heap: Global,
     n: usize,
@@ -75,7 +82,11 @@ pub fn symmetric_eigenvalues<T: Scalar>(
 ) -> Result<Solved<T>, Failure>
     ensures solution { solution_of result ≡ given_room (had_room result)
         (solution (kind T.ops T.Real.ops T.Real.real) false n table.items tolerance limit) }
+    // of a side that is refused no want of memory is told
+    ensures side { side_refused n ≡ true → solution_of result ≡ failed (refused 1 []) }
     ensures counts { IfOk result (Counts n 0) }
+    ensures limits { Limits (solution_of result) (solution (kind T.ops T.Real.ops T.Real.real) false n table.items tolerance) }
+    ensures lower_triangle { LowerTriangle (kind T.ops T.Real.ops T.Real.real) n table.items tolerance limit }
 {
     let form = reduced(heap, n, table)?;
     let mut keeper = NoRows::new(n);
@@ -83,7 +94,7 @@ pub fn symmetric_eigenvalues<T: Scalar>(
 }
 
 // The same with the eigenvectors.
-#[tactic(auto, using(crate::proofs::Whole::unformed, crate::proofs::Whole::same_values))]
+#[tactic(auto, using(crate::proofs::Whole::unformed, crate::proofs::Whole::unformed_side, crate::proofs::Whole::same_values, crate::proofs::Limits::limits_unformed, crate::proofs::Limits::limits_starved, crate::proofs::Lowers::lower_triangle))]
 pub fn symmetric_eigen<T: Scalar>(
     heap: Global,
     n: usize,
@@ -93,10 +104,14 @@ pub fn symmetric_eigen<T: Scalar>(
 ) -> Result<Solved<T>, Failure>
     ensures solution { solution_of result ≡ given_room (had_room result)
         (solution (kind T.ops T.Real.ops T.Real.real) true n table.items tolerance limit) }
+    // of a side that is refused no want of memory is told
+    ensures side { side_refused n ≡ true → solution_of result ≡ failed (refused 1 []) }
     ensures counts { IfOk result (Counts n (n * n)) }
     // the largest size, the passes, the values and the refusals are those of the values alone
     ensures same_values { SameButVectors (solution_of result) (given_room (had_room result)
         (solution (kind T.ops T.Real.ops T.Real.real) false n table.items tolerance limit)) }
+    ensures limits { Limits (solution_of result) (solution (kind T.ops T.Real.ops T.Real.real) true n table.items tolerance) }
+    ensures lower_triangle { LowerTriangle (kind T.ops T.Real.ops T.Real.real) n table.items tolerance limit }
 {
     let form = reduced(heap, n, table)?;
     let mut q = zeros(heap, n * n)?;

@@ -12,7 +12,7 @@ use tridiagonal::reduce;
 
 // The table reduced, in buffers that are made for its side.
 // `reduce` looks at the side too, but memory for a side that it refuses must not be asked for.
-#[tactic(auto, using(crate::proofs::Reducing::refused_side))]
+#[tactic(auto, using(crate::proofs::Reducing::refused_side, crate::proofs::Reducing::lawful_side))]
 pub(crate) fn reduced<T: Scalar>(
     heap: Global,
     n: usize,

@@ -1,28 +1,15 @@
 -- What a reduction leaves is assembled.
-use Rattle.std.proofs.Common.{◌≡◌, ℕ, ◌-◌, ◌*◌, Bool, true, false, cond, eqb, List, [], length, Some, None, Option, refl, ◌∙◌}
+use Rattle.std.proofs.Common.{◌≡◌, ℕ, ◌-◌, ◌*◌, true, eqb, List, length, None, Option, refl, ◌∙◌}
 use Rattle.std.proofs.lemmas.Bool.{and_parts, eqb-true, eq-eqb}
-use Rattle.fault.specs.Refusals.{Refusal, refused}
+use Rattle.fault.specs.Refusals.{Refusal}
+use Rattle.decomposition.proofs.Reducing.{lengths}
 use Rattle.symmetric_eigen_c.specs.Forms.{q_of}
 use Rattle.tridiagonal.specs.Assemble.{assemble_lengths, assemble_refusal, matrix_q}
-use Rattle.tridiagonal.specs.Checks.{side_refused, lengths_agree, entry_refusal, reduce_refusal}
+use Rattle.tridiagonal.specs.Checks.{reduce_refusal}
 use Rattle.tridiagonal.specs.Householder.{Kind}
 use Rattle.tridiagonal.specs.Outcome.{unless_refused}
 use Rattle.tridiagonal.specs.Reduce.{reduced_table, signs_of}
 use Rattle.tridiagonal.specs.Tables.{lower}
-
-not_refused : {A : Type 0} (side long : Bool) (a b : A) (entries : Option A) →
-    cond side (Some a) (cond long entries (Some b)) ≡ None → long ≡ true
-not_refused true long a b entries none = absurd (cc)
-not_refused false false a b entries none = absurd (cc)
-not_refused false true a b entries none = refl
-
--- where nothing is refused, the lengths are as stated
-lengths : {C R : Type 0} (K : Kind C R) (n : ℕ) (t : List C) (values offs signs scratch : ℕ) →
-    reduce_refusal K n t values offs signs scratch ≡ None → lengths_agree n (length t) values offs signs scratch ≡ true
-unfolding reduce_refusal
-lengths K n t values offs signs scratch none =
-    not_refused (side_refused n) (lengths_agree n (length t) values offs signs scratch) (refused 1 []) (refused 2 [])
-    (entry_refusal K n 0 t) none
 
 agree : (n table signs q : ℕ) → table ≡ n * n → signs ≡ n - 1 → q ≡ n * n → assemble_lengths n table signs q ≡ true
 agree n table signs q et es eq = rw (et, es, eq, eq-eqb (n * n) (n * n) refl, eq-eqb (n - 1) (n - 1) refl)

@@ -1,18 +1,21 @@
 -- What the calls come to. Definitions only.
-use Rattle.std.specs.Prelude.{ℕ, ◌*◌, cond, ◌&&◌, true, List, [], map, ◌==◌}
+use Rattle.std.specs.Prelude.{ℕ, ◌*◌, Bool, cond, ◌&&◌, true, List, [], map, length, ◌==◌}
 use Rattle.fault.specs.Refusals.{refused}
 use Rattle.tridiagonal.specs.Checks.{side_refused}
 use Rattle.tridiagonal.specs.Householder.{Kind}
-use Rattle.decomposition.specs.Solutions.{Solution, solved, failed, starved, solution}
+use Rattle.decomposition.specs.Solutions.{Solution, solved, failed, starved, given_room, solution}
 use Rattle.symmetric_eigen_c.specs.declared.outcome.Outcome.{Outcome}
 use Rattle.symmetric_eigen_c.specs.Outcomes.{done_in, memory_wanting, told}
 
 module _ {C R : Type 0} (K : Kind C R) where
-  -- the solution of a table with its vectors, if there is room for as many values and entries of vectors as the side asks for
-  abbrev pub solution_into : ℕ → List C → R → ℕ → ℕ → ℕ → Solution C R
-  solution_into n table tolerance limit values vectors =
+  -- In this order: the side, the lengths of the table and of what is to hold values and vectors, want of memory; else the solution of the
+  -- table with its vectors.
+  abbrev pub solution_into : ℕ → List C → R → ℕ → ℕ → ℕ → Bool → Solution C R
+  solution_into n table tolerance limit values vectors enough =
       cond (side_refused n) (failed (refused 1 []))
-      (cond (values == n && vectors == n * n) (solution K true n table tolerance limit) (failed (refused 2 [])))
+      (cond (length table == n * n && (values == n && vectors == n * n))
+      (given_room enough (solution K true n table tolerance limit))
+      (failed (refused 2 [])))
 
 module _ {C R : Type 0} where
   abbrev pub outcome_of : Solution C R → Outcome

@@ -25,7 +25,8 @@ abbrev pub told_unless_none : Option Refusal → Outcome
 told_unless_none None = done_in 0
 told_unless_none (Some why) = told why
 
--- whether memory sufficed
+-- Whether the answer is other than want of memory. This tests the answer and not the memory: where side and lengths fit, want of memory
+-- is open on every input.
 abbrev pub had_room : Outcome → Bool
 had_room o = not (o.number == 255)
 
@@ -35,6 +36,7 @@ failed_in (Ok a) = None
 failed_in (Err (Solver fault)) = Some (refusal fault)
 failed_in (Err Memory) = Some (refused 255 [])
 
+-- The same of what is answered inside: the answer is tested, and not the memory.
 abbrev pub had_memory : {A : Type 0} → Result A Failure → Bool
 had_memory (Ok a) = true
 had_memory (Err (Solver fault)) = true

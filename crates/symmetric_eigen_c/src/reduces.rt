@@ -1,7 +1,7 @@
 // The exported reductions: a table reduced, with its matrix Q. One for each kind, and slices, as in `solves`.
 ghost use Rattle.std.specs.Prelude.{◌≡◌};
-ghost use Rattle.symmetric_eigen_c.specs.Forms.{Crossed, Formed, crossing, crossing_refusal, form_refusal, room};
-ghost use Rattle.symmetric_eigen_c.specs.Kinds.{c32, c64, r32, r64};
+ghost use Rattle.symmetric_eigen_c.specs.Forms.{Crossed, Formed, crossing, crossing_refusal, form_refusal, with_q};
+ghost use Rattle.decomposition.specs.Kinds.{c32, c64, r32, r64};
 ghost use Rattle.symmetric_eigen_c.specs.Outcomes.{had_room, told_unless_none};
 ghost use Rattle.symmetric_eigen_c.specs.Points.{complex_of_32, complex_of_64, point_32, point_64};
 ghost use Rattle.tridiagonal.specs.Runs.{buffers};
@@ -24,11 +24,11 @@ pub extern "C" fn symmetric_eigen_c_reduce_r64(
     q: &mut [f64],
 ) -> Outcome
     ensures answer { result ≡ told_unless_none (form_refusal r64 n
-        (room (buffers table.old values.old offs.old signs.old scratch.old) q.old)) }
+        (with_q (buffers table.old values.old offs.old signs.old scratch.old) q.old)) }
     ensures left { Formed r64 n
-        (room (buffers table.old values.old offs.old signs.old scratch.old) q.old)
-        (form_refusal r64 n (room (buffers table.old values.old offs.old signs.old scratch.old) q.old))
-        (room (buffers table.new values.new offs.new signs.new scratch.new) q.new) }
+        (with_q (buffers table.old values.old offs.old signs.old scratch.old) q.old)
+        (form_refusal r64 n (with_q (buffers table.old values.old offs.old signs.old scratch.old) q.old))
+        (with_q (buffers table.new values.new offs.new signs.new scratch.new) q.new) }
 {
     reduce_here::<f64>(n, table, values, offs, signs, scratch, q)
 }
@@ -45,11 +45,11 @@ pub extern "C" fn symmetric_eigen_c_reduce_r32(
     q: &mut [f32],
 ) -> Outcome
     ensures answer { result ≡ told_unless_none (form_refusal r32 n
-        (room (buffers table.old values.old offs.old signs.old scratch.old) q.old)) }
+        (with_q (buffers table.old values.old offs.old signs.old scratch.old) q.old)) }
     ensures left { Formed r32 n
-        (room (buffers table.old values.old offs.old signs.old scratch.old) q.old)
-        (form_refusal r32 n (room (buffers table.old values.old offs.old signs.old scratch.old) q.old))
-        (room (buffers table.new values.new offs.new signs.new scratch.new) q.new) }
+        (with_q (buffers table.old values.old offs.old signs.old scratch.old) q.old)
+        (form_refusal r32 n (with_q (buffers table.old values.old offs.old signs.old scratch.old) q.old))
+        (with_q (buffers table.new values.new offs.new signs.new scratch.new) q.new) }
 {
     reduce_here::<f32>(n, table, values, offs, signs, scratch, q)
 }

@@ -1,9 +1,8 @@
 // The exported decompositions: a table's values and vectors. A slice crosses as a pointer and a length; `heap` takes no bytes.
 // One for each kind, written out: an export has no type parameters, and `rt ci` refuses items by a macro.
 ghost use Rattle.std.specs.Prelude.{◌≡◌, length, map};
-ghost use Rattle.decomposition.specs.Solutions.{given_room};
 ghost use Rattle.symmetric_eigen_c.specs.Calls.{solution_into, outcome_of, values_or, vectors_or};
-ghost use Rattle.symmetric_eigen_c.specs.Kinds.{c32, c64, r32, r64};
+ghost use Rattle.decomposition.specs.Kinds.{c32, c64, r32, r64};
 ghost use Rattle.symmetric_eigen_c.specs.Outcomes.{had_room};
 ghost use Rattle.symmetric_eigen_c.specs.Points.{complex_of_32, complex_of_64, point_32, point_64};
 
@@ -24,12 +23,12 @@ pub extern "C" fn symmetric_eigen_c_solve_r64(
     values: &mut [f64],
     vectors: &mut [f64],
 ) -> Outcome
-    ensures answer { result ≡ outcome_of (given_room (had_room result)
-        (solution_into r64 n table.now tolerance limit (length values.old) (length vectors.old))) }
-    ensures values { values.new ≡ values_or (given_room (had_room result)
-        (solution_into r64 n table.now tolerance limit (length values.old) (length vectors.old))) values.old }
-    ensures vectors { vectors.new ≡ vectors_or (λ x. x) (given_room (had_room result)
-        (solution_into r64 n table.now tolerance limit (length values.old) (length vectors.old))) vectors.old }
+    ensures answer { result ≡ outcome_of
+        (solution_into r64 n table.now tolerance limit (length values.old) (length vectors.old) (had_room result)) }
+    ensures values { values.new ≡ values_or
+        (solution_into r64 n table.now tolerance limit (length values.old) (length vectors.old) (had_room result)) values.old }
+    ensures vectors { vectors.new ≡ vectors_or (λ x. x)
+        (solution_into r64 n table.now tolerance limit (length values.old) (length vectors.old) (had_room result)) vectors.old }
 {
     solve::<f64, f64>(heap, n, table, tolerance, limit, values, vectors)
 }
@@ -45,12 +44,12 @@ pub extern "C" fn symmetric_eigen_c_solve_r32(
     values: &mut [f32],
     vectors: &mut [f32],
 ) -> Outcome
-    ensures answer { result ≡ outcome_of (given_room (had_room result)
-        (solution_into r32 n table.now tolerance limit (length values.old) (length vectors.old))) }
-    ensures values { values.new ≡ values_or (given_room (had_room result)
-        (solution_into r32 n table.now tolerance limit (length values.old) (length vectors.old))) values.old }
-    ensures vectors { vectors.new ≡ vectors_or (λ x. x) (given_room (had_room result)
-        (solution_into r32 n table.now tolerance limit (length values.old) (length vectors.old))) vectors.old }
+    ensures answer { result ≡ outcome_of
+        (solution_into r32 n table.now tolerance limit (length values.old) (length vectors.old) (had_room result)) }
+    ensures values { values.new ≡ values_or
+        (solution_into r32 n table.now tolerance limit (length values.old) (length vectors.old) (had_room result)) values.old }
+    ensures vectors { vectors.new ≡ vectors_or (λ x. x)
+        (solution_into r32 n table.now tolerance limit (length values.old) (length vectors.old) (had_room result)) vectors.old }
 {
     solve::<f32, f32>(heap, n, table, tolerance, limit, values, vectors)
 }
@@ -66,12 +65,15 @@ pub extern "C" fn symmetric_eigen_c_solve_c64(
     values: &mut [f64],
     vectors: &mut [Complex64],
 ) -> Outcome
-    ensures answer { result ≡ outcome_of (given_room (had_room result)
-        (solution_into c64 n (map complex_of_64 table.now) tolerance limit (length values.old) (length vectors.old))) }
-    ensures values { values.new ≡ values_or (given_room (had_room result)
-        (solution_into c64 n (map complex_of_64 table.now) tolerance limit (length values.old) (length vectors.old))) values.old }
-    ensures vectors { vectors.new ≡ vectors_or point_64 (given_room (had_room result)
-        (solution_into c64 n (map complex_of_64 table.now) tolerance limit (length values.old) (length vectors.old))) vectors.old }
+    ensures answer { result ≡ outcome_of
+        (solution_into c64 n (map complex_of_64 table.now) tolerance limit
+        (length values.old) (length vectors.old) (had_room result)) }
+    ensures values { values.new ≡ values_or
+        (solution_into c64 n (map complex_of_64 table.now) tolerance limit
+        (length values.old) (length vectors.old) (had_room result)) values.old }
+    ensures vectors { vectors.new ≡ vectors_or point_64
+        (solution_into c64 n (map complex_of_64 table.now) tolerance limit
+        (length values.old) (length vectors.old) (had_room result)) vectors.old }
 {
     solve::<Complex<f64>, Complex64>(heap, n, table, tolerance, limit, values, vectors)
 }
@@ -87,12 +89,15 @@ pub extern "C" fn symmetric_eigen_c_solve_c32(
     values: &mut [f32],
     vectors: &mut [Complex32],
 ) -> Outcome
-    ensures answer { result ≡ outcome_of (given_room (had_room result)
-        (solution_into c32 n (map complex_of_32 table.now) tolerance limit (length values.old) (length vectors.old))) }
-    ensures values { values.new ≡ values_or (given_room (had_room result)
-        (solution_into c32 n (map complex_of_32 table.now) tolerance limit (length values.old) (length vectors.old))) values.old }
-    ensures vectors { vectors.new ≡ vectors_or point_32 (given_room (had_room result)
-        (solution_into c32 n (map complex_of_32 table.now) tolerance limit (length values.old) (length vectors.old))) vectors.old }
+    ensures answer { result ≡ outcome_of
+        (solution_into c32 n (map complex_of_32 table.now) tolerance limit
+        (length values.old) (length vectors.old) (had_room result)) }
+    ensures values { values.new ≡ values_or
+        (solution_into c32 n (map complex_of_32 table.now) tolerance limit
+        (length values.old) (length vectors.old) (had_room result)) values.old }
+    ensures vectors { vectors.new ≡ vectors_or point_32
+        (solution_into c32 n (map complex_of_32 table.now) tolerance limit
+        (length values.old) (length vectors.old) (had_room result)) vectors.old }
 {
     solve::<Complex<f32>, Complex32>(heap, n, table, tolerance, limit, values, vectors)
 }

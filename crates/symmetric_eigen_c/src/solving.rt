@@ -11,7 +11,7 @@ use crate::outcome::Outcome;
 use crate::points::{Complex32, Complex64};
 use crate::told::{done, memory, told};
 use decomposition::{Failure, Solved, symmetric_eigen};
-use fault::Fault;
+use fault::{Fault, side_fits};
 use scalar::{Arithmetic, Complex, RealScalar, Scalar};
 use std::alloc::Global;
 
@@ -31,7 +31,8 @@ fn solved<T: Scalar, C: Crossing<T>>(
     symmetric_eigen(heap, n, table, tolerance, limit)
 }
 
-// The decomposition with its values and vectors written where the caller has room for them.
+// The decomposition with its values and vectors written where the caller has room for them. Side and lengths are tested before memory is
+// asked for.
 pub(crate) fn solve<T: Scalar, C: Crossing<T>>(
     heap: Global,
     n: usize,
@@ -41,20 +42,20 @@ pub(crate) fn solve<T: Scalar, C: Crossing<T>>(
     values: &mut [T::Real],
     vectors: &mut [C],
 ) -> Outcome
-    ensures answer { result ≡ outcome_of (given_room (had_room result)
+    ensures answer { result ≡ outcome_of
         (solution_into (kind T.ops T.Real.ops T.Real.real) n (map C.inward table.now) tolerance limit
-        (length values.old) (length vectors.old))) }
-    ensures values { values.new ≡ values_or (given_room (had_room result)
+        (length values.old) (length vectors.old) (had_room result)) }
+    ensures values { values.new ≡ values_or
         (solution_into (kind T.ops T.Real.ops T.Real.real) n (map C.inward table.now) tolerance limit
-        (length values.old) (length vectors.old))) values.old }
-    ensures vectors { vectors.new ≡ vectors_or C.outward (given_room (had_room result)
+        (length values.old) (length vectors.old) (had_room result)) values.old }
+    ensures vectors { vectors.new ≡ vectors_or C.outward
         (solution_into (kind T.ops T.Real.ops T.Real.real) n (map C.inward table.now) tolerance limit
-        (length values.old) (length vectors.old))) vectors.old }
+        (length values.old) (length vectors.old) (had_room result)) vectors.old }
 {
-    if !(1..=512).contains(&n) {
+    if !side_fits(n) {
         return told(Fault::Side);
     }
-    if [values.len(), vectors.len()] != [n, n * n] {
+    if [table.len(), values.len(), vectors.len()] != [n * n, n, n * n] {
         return told(Fault::Length);
     }
     match solved(heap, n, table, tolerance, limit) {

@@ -1,4 +1,4 @@
--- The kinds of the exported functions. Definitions only.
+-- The four kinds by name. Definitions only.
 use Rattle.std.specs.Prelude.{Float}
 use Rattle.std.specs.Float.{binary32, binary64}
 use Rattle.scalar.specs.ComplexOps.{complex_ops}
