@@ -15,8 +15,8 @@ use Rattle.sheet.specs.Desk.{Table, real_table, outline_table}
 use Rattle.sheet.specs.Sheets.{Closing, run}
 use Rattle.listing.specs.declared.line.Line.{Line}
 use Rattle.listing.specs.declared.line.Line.TheVariants.{Heading}
-use Rattle.listing.specs.Laws.{AddsRows, ListsMore, adds_rows_to}
-use Rattle.listing.specs.Listings.{entry_lines, made_from, made_of_typed, real_kind, outline_kind, value_lines}
+use Rattle.listing.specs.Laws.{AddsRows, adds_rows_to, followed_by, vectors_in}
+use Rattle.listing.specs.Listings.{entry_lines, lists, made_from, made_of_typed, real_kind, outline_kind, solution_of_typed, value_lines}
 use Rattle.listing.specs.Shown.{ShownAs, reals_shown, outlines_shown}
 
 -- no vectors where none are asked for
@@ -51,10 +51,10 @@ module _ {C : Type 0} (S : ShownAs C) where
       sym (ap (λ ls. heading q ∷ (ls ++ entry_lines S side es)) bare)
 
   more : (side : ℕ) (largest : Float) (a b : Solution C Float) → SameButVectors a b → Bare b →
-      ListsMore (made_from S side largest b) (made_from S side largest a)
+      made_from S side largest a ≡ followed_by (made_from S side largest b) (entry_lines S side (vectors_in a))
   unfolding Bare
   more side largest (solved a) (solved b) h e =
-      (entry_lines S side a.vectors, more_lines (Heading S.kind side (to_bits binary64 largest)) side _ _ _ _ _ _ h.1 h.2 e)
+      ap lists (more_lines (Heading S.kind side (to_bits binary64 largest)) side _ _ _ _ _ _ h.1 h.2 e)
   more side largest (solved a) (failed v) h e = absurd h
   more side largest (solved a) starved h e = absurd h
   more side largest (failed w) (solved b) h e = absurd h
@@ -64,7 +64,9 @@ module _ {C : Type 0} (S : ShownAs C) where
   more side largest starved (failed v) h e = absurd h
   more side largest starved starved h e = refl
 
-  typed_more : (K : Kind C Float) (j : Typed C Float) → ListsMore (made_of_typed S K Values j) (made_of_typed S K Vectors j)
+  typed_more : (K : Kind C Float) (j : Typed C Float) →
+      made_of_typed S K Vectors j ≡
+      followed_by (made_of_typed S K Values j) (entry_lines S j.side (vectors_in (solution_of_typed K Vectors j)))
   typed_more K j =
       more j.side j.largest (solution K true j.side (entries K.ops j) j.tolerance j.limit)
       (solution K false j.side (entries K.ops j) j.tolerance j.limit)
