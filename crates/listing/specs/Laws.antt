@@ -1,5 +1,5 @@
 -- Laws over whole listings. Definitions only.
-use Rattle.std.specs.Prelude.{◌≡◌, ℕ, ◌≤◌, List, [], ◌++◌, length, Some, None, Option, ◌≢◌}
+use Rattle.std.specs.Prelude.{◌≡◌, ℕ, ◌*◌, ◌≤◌, List, [], ◌++◌, length, Some, None, Option, ◌≢◌}
 use Rattle.std.specs.List.{AllByRecursion}
 use Rattle.tridiagonal.specs.Reduce.{largest_size}
 use Rattle.decomposition.specs.Solutions.{Solution, solved, failed, starved}
@@ -42,12 +42,18 @@ abbrev pub vector_lines : Table → List Line
 vector_lines (real_table asked j) = entry_lines reals_shown j.side (vectors_in (solution_of_typed real_kind Vectors j))
 vector_lines (outline_table asked j) = entry_lines outlines_shown j.side (vectors_in (solution_of_typed outline_kind Vectors j))
 
--- Asked for vectors, a table lists what it does asked for values, and then its vectors, entry by entry.
-abbrev pub adds_rows_to : Table → Type 0
-adds_rows_to t = made_of_table (asking Vectors t) ≡ followed_by (made_of_table (asking Values t)) (vector_lines t)
+abbrev pub side_of : Table → ℕ
+side_of (real_table asked j) = j.side
+side_of (outline_table asked j) = j.side
+
+-- Asked for vectors, a table lists what it does asked for values, and then its vectors, entry by entry: where it is solved, a line for each
+-- row and column.
+pub record AddsRowsTo (t : Table) : Type 0 where
+  pub follow : made_of_table (asking Vectors t) ≡ followed_by (made_of_table (asking Values t)) (vector_lines t)
+  pub many : (ls : List Line) → made_of_table (asking Vectors t) ≡ lists ls → length (vector_lines t) ≡ side_of t * side_of t
 
 abbrev pub AddsRows : List ℕ → Type 0
-AddsRows s = AllByRecursion (λ c. adds_rows_to c.table) (run s).tables
+AddsRows s = AllByRecursion (λ c. AddsRowsTo c.table) (run s).tables
 
 -- What follows a refused command does not matter, be it refused by the reader or as its table is solved. (A command that is cut
 -- off is another one when more bytes follow.) So it is of a sheet's tables, whatever its length, and of its listing where the longer
