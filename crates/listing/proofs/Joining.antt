@@ -1,10 +1,11 @@
 -- A listing with more bytes behind its sheet.
-use Rattle.std.proofs.Common.{◌≡◌, ℕ, ◌+◌, ◌⊎◌, List, [], ◌∷◌, ◌++◌, map, length, Some, None, Option, inl, inr, ⊎_elim, sym, refl, ap, ◌∙◌, append_assoc}
+use Rattle.std.proofs.Common.{◌≡◌, ℕ, ◌+◌, ◌≤◌, ◌⊎◌, ltb, List, [], ◌∷◌, ◌++◌, map, length, Some, None, Option, inl, inr, ⊎_elim, sym, refl, ap, ◌∙◌, append_assoc, arith, length-append}
+use Rattle.std.proofs.lemmas.Bool.{cond-false, le-ltb}
 use Rattle.sheet.specs.Laws.{read_of, closed_later, later}
 use Rattle.sheet.specs.Sheets.{Closing, Stop, run}
 use Rattle.sheet.proofs.Joining as sheets
-use Rattle.listing.specs.Laws.{ListsBehind, Unlisted, behind, unless_ended}
-use Rattle.listing.specs.Listings.{Listed, Made, lists, fails, in_turn, lines, onward, solved_read, made_of_table}
+use Rattle.listing.specs.Laws.{ListsBehind, TablesBehind, TablesUnlisted, Unlisted, behind, unless_ended}
+use Rattle.listing.specs.Listings.{Listed, Made, lists, fails, in_turn, lines, listed, longest, onward, solved_read, too_long, made_of_table}
 
 -- A table that is refused ends a listing, whatever follows.
 one_ended : (place : ℕ) (m : Made) (none whole read : Listed) → (none.refusal ≡ None) ⊎ (whole ≡ read) →
@@ -28,8 +29,8 @@ ended_behind [] x e = refl
 ended_behind (c ∷ cs) x e =
     one_behind c.place (made_of_table c.table) (in_turn cs None) (in_turn cs x) x (ended_behind cs x) e
 
-pub unlisted : (s : List ℕ) → Unlisted s
-unlisted s t x e not =
+pub tables_unlisted : (s : List ℕ) → TablesUnlisted s
+tables_unlisted s t x e not =
     let k = sheets.kept s t in
     ⊎_elim
     (λ solved. ap (λ r. solved_read (read_of r))
@@ -68,8 +69,30 @@ joined_in_turn (c ∷ cs) ds n x =
     ap (onward c.place (made_of_table c.table)) (joined_in_turn cs ds n x) ∙
     onward_then c.place n (made_of_table c.table) (in_turn cs None) (in_turn ds x)
 
-pub lists_behind : (s : List ℕ) → ListsBehind s
-lists_behind s t all =
+pub tables_behind : (s : List ℕ) → TablesBehind s
+tables_behind s t all =
     ap (λ r. solved_read (read_of r)) (sheets.joins s t all) ∙
     joined_in_turn (run s).tables (run t).tables (length s) (run t).refusal ∙
     ap (λ x. behind (in_turn (run s).tables x) (length s) (lines t)) (sym all.unrefused)
+
+-- A sheet that is short enough lists its tables.
+short : (s : List ℕ) → length s ≤ longest → listed s ≡ lines s
+short s fits = cond-false (ltb longest (length s)) too_long (lines s) (le-ltb longest (length s) fits)
+
+-- Each part of a sheet that is short enough is so too.
+first_fits : (s t : List ℕ) → length (s ++ t) ≤ longest → length s ≤ longest
+first_fits s t fits = omega (arith, length-append s t)
+
+second_fits : (s t : List ℕ) → length (s ++ t) ≤ longest → length t ≤ longest
+second_fits s t fits = omega (arith, length-append s t)
+
+pub unlisted : (s : List ℕ) → Unlisted s
+unlisted s t x fits e not =
+    let alone = short s (first_fits s t fits) in
+    short (s ++ t) fits ∙ tables_unlisted s t x (ap (λ l. l.refusal) (sym alone) ∙ e) not ∙ sym alone
+
+pub lists_behind : (s : List ℕ) → ListsBehind s
+lists_behind s t fits all =
+    short (s ++ t) fits ∙ tables_behind s t all ∙
+    ap (λ l. behind l (length s) (lines t)) (sym (short s (first_fits s t fits))) ∙
+    ap (behind (listed s) (length s)) (sym (short t (second_fits s t fits)))

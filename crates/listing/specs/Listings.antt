@@ -120,7 +120,8 @@ abbrev pub made_of : {A : Type 0} → Result (Vec Line A) SheetFault → Made
 made_of (Ok v) = lists (vec_items v)
 made_of (Err fault) = fails (why fault)
 
--- Whether there was memory: only want of it says no.
+-- Whether there was memory: only want of it says no. It tests the answer and not the memory, so that want of memory is open on every
+-- input.
 abbrev pub had_room : Made → Bool
 had_room (lists ls) = true
 had_room (fails w) = room_for w

@@ -3,7 +3,7 @@ ghost use Rattle.std.specs.Prelude.{◌≡◌, IfOk, IsOkUnless};
 ghost use Rattle.sheet.specs.Desk.{table_of};
 ghost use Rattle.sheet.specs.Laws.{Final, Gathers, Joins};
 ghost use Rattle.sheet.specs.declared.sheet_fault.SheetFault.TheVariants.{Memory};
-ghost use Rattle.listing.specs.Laws.{AddsRows, ListsBehind, Reduces, Unlisted};
+ghost use Rattle.listing.specs.Laws.{AddsRows, ListsBehind, Reduces, TablesBehind, TablesUnlisted, Unlisted};
 ghost use Rattle.listing.specs.Listings.{lines as listed_lines, listed, listing_of, made_of_table};
 ghost use Rattle.listing.specs.Steps.{Makes, Steps};
 
@@ -70,7 +70,8 @@ fn list_tables(heap: Global, sheet: &[u8]) -> Result<Listing, SheetFault>
     }
 }
 
-// The listing of a sheet. It fails for want of memory alone.
+// The listing of a sheet. It fails for want of memory alone. What is promised after that is of the definitions that `listing` ties the
+// answer to: laws of `listed`, of `run` and of `lines`, which `listed` is made of.
 #[tactic(auto, using(crate::proofs::Whole::list_sheet_laws))]
 pub fn list_sheet(heap: Global, sheet: &[u8]) -> Result<Listing, SheetFault>
     ensures listing { IfOk result (λ l. listing_of l ≡ listed sheet.now) }
@@ -78,14 +79,16 @@ pub fn list_sheet(heap: Global, sheet: &[u8]) -> Result<Listing, SheetFault>
     // the largest size gathered for each closed table is that of the whole table, and that by which its reduction divides
     ensures gathers { Gathers sheet.now }
     ensures reduces { Reduces sheet.now }
-    // asked for vectors, a table lists what it does asked for values, and then lines of its own
+    // asked for vectors, a table lists what it does asked for values, and then a line for each entry of its vectors
     ensures adds_rows { AddsRows sheet.now }
     // what follows a refused command is not read, nor listed, be it refused by the reader or as its table is solved
     ensures unread { Final sheet.now }
     ensures unlisted { Unlisted sheet.now }
+    ensures tables_unlisted { TablesUnlisted sheet.now }
     // a sheet behind one that closes all its tables is read after it, and listed after it, unless one of those is refused
     ensures joins { Joins sheet.now }
     ensures lists_behind { ListsBehind sheet.now }
+    ensures tables_behind { TablesBehind sheet.now }
 {
     if sheet.len() > LONGEST {
         return Ok(Listing {
