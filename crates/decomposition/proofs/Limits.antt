@@ -107,7 +107,7 @@ module _ {C R : Type 0} (K : Kind C R) (f : Form C R) where
               ended_same (columns_kept K (kept_all K.ops (run limit).turns k)) (columns_kept K (kept_all K.ops (run m).turns k)) (run limit) (run m)
               (run limit).answer (run m).answer e.passes a (sym same.answer ∙ answer ∙ a) (sym values ∙ same.values)
               (same_columns (kept_all K.ops (run limit).turns k) (kept_all K.ops (run m).turns k)
-              (ap (λ (x : Kept C). x.rows) (sym kept) ∙ same.rows) refl);
+              (ap (λ (x : Kept C). x.rows) (sym kept ∙ same.kept)) refl);
           within = λ e m s least h.
               let a = given_in e s in
               let short = (any e.passes m begun (finished m) (answer ∙ a) alike (finishes wide m)).1 least h in

@@ -3,6 +3,7 @@ use Rattle.std.proofs.Common.{◌≡◌, ℕ, ◌-◌, ◌*◌, ◌<◌, ◌≤�
 use Rattle.std.proofs.lemmas.Bool.Decides.{nat_tests}
 use Rattle.std.proofs.lemmas.Bool.{or_left, or_right, eq-eqb, lt-ltb, eqb-true, and_parts}
 use Rattle.fault.specs.Refusals.{Refusal, refused}
+use Rattle.tridiagonal.specs.Accepted.{accepted, unless_none}
 use Rattle.tridiagonal.specs.Checks.{side_refused, lengths_agree, entry_refusal, reduce_refusal, refusal_for}
 use Rattle.tridiagonal.specs.Householder.{Kind}
 use Rattle.tridiagonal.specs.Outcome.{Reduced, reduce_outcome, unless_refused}
@@ -14,20 +15,6 @@ use Rattle.decomposition.specs.Forms.{Fits}
 pub lawful_side : (n : ℕ) → 0 < n → n ≤ 512 → side_refused n ≡ false
 lawful_side n some few = grind (arith, nat_tests)
 
-not_refused : {A : Type 0} (side long : Bool) (a b : A) (entries : Option A) →
-    cond side (Some a) (cond long entries (Some b)) ≡ None → long ≡ true
-not_refused true long a b entries none = absurd (cc)
-not_refused false false a b entries none = absurd (cc)
-not_refused false true a b entries none = refl
-
--- where nothing is refused, the lengths are as stated
-pub lengths : {C R : Type 0} (K : Kind C R) (n : ℕ) (t : List C) (values offs signs scratch : ℕ) →
-    reduce_refusal K n t values offs signs scratch ≡ None → lengths_agree n (length t) values offs signs scratch ≡ true
-unfolding reduce_refusal
-lengths K n t values offs signs scratch none =
-    not_refused (side_refused n) (lengths_agree n (length t) values offs signs scratch) (refused 1 []) (refused 2 [])
-    (entry_refusal K n 0 t) none
-
 module _ {C R : Type 0} (K : Kind C R) (n : ℕ) (t : List C) where
   pub side_refusal : side_refused n ≡ true → table_refusal K n t ≡ Some (refused 1 [])
   unfolding reduce_refusal
@@ -37,19 +24,16 @@ module _ {C R : Type 0} (K : Kind C R) (n : ℕ) (t : List C) where
   pub refused_side : (n ≡ 0) ⊎ ((n ≡ 0 → ⊥) × (512 < n)) → table_refusal K n t ≡ Some (refused 1 [])
   refused_side way =
       side_refusal
-      (⊎_elim (λ (z : n ≡ 0). or_left (eqb n 0) (ltb 512 n) (eq-eqb n 0 z))
-      (λ (z : (n ≡ 0 → ⊥) × (512 < n)). or_right (eqb n 0) (ltb 512 n) (lt-ltb 512 n z.1)) way)
+      (⊎_elim (λ (z : n ≡ 0). grind (arith, nat_tests, z))
+      (λ (z : (n ≡ 0 → ⊥) × (512 < n)). grind (arith, nat_tests, z.1)) way)
 
   -- a table that is not refused is whole
   table_whole : table_refusal K n t ≡ None → length t ≡ n * n
-  table_whole none = eqb-true (length t) (n * n) (and_parts (eqb (length t) (n * n)) _ (lengths K n t n (n - 1) (n - 1) (n - 1) none)).0
+  table_whole none = (accepted K n t n (n - 1) (n - 1) (n - 1) none).as_table
 
-pub accepted : {R : Type 0} (o : Option Refusal) (a n : ℕ) (b l : R) → Reduced a b ≡ reduce_outcome o n l → (o ≡ None) × ((a ≡ n) × (b ≡ l))
-accepted None a n b l e = (refl, (cc, cc))
-accepted (Some why) a n b l e = absurd (cc)
-
-pub unless_none : {A : Type 0} (o : Option Refusal) (was made now : A) → o ≡ None → now ≡ unless_refused o was made → now ≡ made
-unless_none o was made now none is = rw none at is
+pub reduced : {R : Type 0} (o : Option Refusal) (a n : ℕ) (b l : R) → Reduced a b ≡ reduce_outcome o n l → (o ≡ None) × ((a ≡ n) × (b ≡ l))
+reduced None a n b l e = (refl, (cc, cc))
+reduced (Some why) a n b l e = absurd (cc)
 
 -- the form that a reduction leaves, from the slices that it was given and those that it left
 module _ {C R : Type 0} (K : Kind C R) (n : ℕ) (t t0 : List C) (v0 f0 : List R) (s0 c0 : List C) where
@@ -70,15 +54,15 @@ module _ {C R : Type 0} (K : Kind C R) (n : ℕ) (t t0 : List C) (v0 f0 : List R
       × (◌≡◌ {A = Form C R} (record { side = side; largest = largest; table = t1; values = v1; offs = f1; signs = s1 }) (reduced_form K n t))
       × Fits {C = C} {R = R} (record { side = side; largest = largest; table = t1; values = v1; offs = f1; signs = s1 })
   reduces side largest t1 v1 f1 s1 et ev ef es ec some few answer it iv if is lt lv lf ls =
-      let a = accepted (refusal_for K n t0 v0 f0 s0 c0) side n largest (largest_size K t0) answer in
+      let a = reduced (refusal_for K n t0 v0 f0 s0 c0) side n largest (largest_size K t0) answer in
       let none : table_refusal K n t ≡ None = sym (same_refusal et ev ef es ec) ∙ a.0 in
       let whole : length t ≡ n * n = table_whole K n t none in
       let square : n * n ≡ side * side = ap (λ (k : ℕ). k * k) (sym a.1.0) in
       let sn = a.1.0 in
-      let bt = unless_none _ t0 (reduced_table K n t0) t1 a.0 it ∙ ap (reduced_table K n) et in
-      let bv = unless_none _ v0 (values_of K n t0) v1 a.0 iv ∙ ap (values_of K n) et in
-      let bf = unless_none _ f0 (offs_of K n t0) f1 a.0 if ∙ ap (offs_of K n) et in
-      let bs = unless_none _ s0 (signs_of K n t0) s1 a.0 is ∙ ap (signs_of K n) et in
+      let bt = it ∙ unless_none _ t0 (reduced_table K n t0) a.0 ∙ ap (reduced_table K n) et in
+      let bv = iv ∙ unless_none _ v0 (values_of K n t0) a.0 ∙ ap (values_of K n) et in
+      let bf = if ∙ unless_none _ f0 (offs_of K n t0) a.0 ∙ ap (offs_of K n) et in
+      let bs = is ∙ unless_none _ s0 (signs_of K n t0) a.0 ∙ ap (signs_of K n) et in
       let bl = a.1.1 ∙ ap (largest_size K) et in (
         none,
         rw (sn, bl, bt, bv, bf, bs),

@@ -17,7 +17,7 @@ use Rattle.eigen.specs.Settles.{settle_of}
 use Rattle.decomposition.specs.Solutions.{Form, ended_with, settled_form, settled_with, task_of, rows_of_q, by_columns, columns_kept}
 use Rattle.decomposition.specs.Forms.{Fits}
 use Rattle.decomposition.proofs.HeldRows.{length_columns}
-use Rattle.decomposition.proofs.Reducing.{unless_none}
+use Rattle.tridiagonal.specs.Accepted.{unless_none}
 
 all_rows_of_q_fit : (n l : ℕ) → 0 < n → n ≤ 512 → l ≡ n * n → all_rows_fit n n l ≡ true
 all_rows_of_q_fit n l some few e = grind (arith, nat_tests)
@@ -46,7 +46,7 @@ module _ {C R : Type 0} (K : Kind C R) (f : Form C R) where
       left ≡ unless_refused (assemble_refusal f.side t s was) was (matrix_q K f.side (lower f.side 0 f.side t) s) →
       left ≡ matrix_q K f.side (lower f.side 0 f.side f.table) f.signs
   assembled t s was left et es none is =
-      cc (unless_none (assemble_refusal f.side t s was) was (matrix_q K f.side (lower f.side 0 f.side t) s) left (sym none) is)
+      cc (is, unless_none (assemble_refusal f.side t s was) was (matrix_q K f.side (lower f.side 0 f.side t) s) (sym none))
 
   -- a keeper of Q's cells holds its rows
   pub rows_held : Fits f → (side : ℕ) (q : List C) (k : Kept C) → side ≡ f.side →

@@ -2,7 +2,7 @@
 use Rattle.std.proofs.Common.{◌≡◌, ℕ, List, [], ◌∷◌, fold, refl, ◌∙◌}
 use Rattle.std.specs.List.{AllByRecursion}
 use Rattle.tridiagonal.specs.Householder.{Kind}
-use Rattle.tridiagonal.specs.Reduce.{largest_from, largest_size}
+use Rattle.tridiagonal.specs.Reduce.{largest_size}
 use Rattle.job.specs.Gathered.{gather, largest_size as gatheredSize}
 use Rattle.sheet.specs.Desk.{Table, real_table, outline_table}
 use Rattle.sheet.specs.Laws.{gathered_table}
@@ -12,15 +12,10 @@ use Rattle.listing.specs.Laws.{Reduces, reduces_by}
 use Rattle.listing.specs.Listings.{real_kind, outline_kind}
 
 module _ {C R : Type 0} (K : Kind C R) where
-  folds : (l : R) (xs : List C) → fold (gather K.ops K.real) l xs ≡ largest_from K l xs
-  unfolding largest_from
-  folds l [] = refl
-  folds l (x ∷ xs) = folds (K.real.larger l (K.ops.size x)) xs
-
   same_size : (xs : List C) → gatheredSize K.ops K.real xs ≡ largest_size K xs
-  unfolding largest_size largest_from
+  unfolding largest_size
   same_size [] = refl
-  same_size (x ∷ xs) = folds (K.ops.size x) xs
+  same_size (x ∷ xs) = refl
 
 of_table : (t : Table) → gathered_table t → reduces_by t
 of_table (real_table asked j) g = g.largest ∙ same_size real_kind _

@@ -1,10 +1,10 @@
 -- What a reduction leaves is assembled.
-use Rattle.std.proofs.Common.{◌≡◌, ℕ, ◌-◌, ◌*◌, true, eqb, List, length, None, Option, refl, ◌∙◌}
+use Rattle.std.proofs.Common.{◌≡◌, ℕ, ◌-◌, ◌*◌, true, eqb, List, length, None, Option, sym, refl, ◌∙◌}
 use Rattle.std.proofs.lemmas.Bool.{and_parts, eqb-true, eq-eqb}
 use Rattle.fault.specs.Refusals.{Refusal}
-use Rattle.decomposition.proofs.Reducing.{lengths}
 use Rattle.symmetric_eigen_c.specs.Forms.{q_of}
 use Rattle.tridiagonal.specs.Assemble.{assemble_lengths, assemble_refusal, matrix_q}
+use Rattle.tridiagonal.specs.Accepted.{accepted, unless_none}
 use Rattle.tridiagonal.specs.Checks.{reduce_refusal}
 use Rattle.tridiagonal.specs.Householder.{Kind}
 use Rattle.tridiagonal.specs.Outcome.{unless_refused}
@@ -18,17 +18,12 @@ pub assembled : {C R : Type 0} (K : Kind C R) (n side : ℕ) (t t1 s1 q : List C
     reduce_refusal K n t values offs signs scratch ≡ None → side ≡ n → length t1 ≡ length t → length s1 ≡ signs →
     length q ≡ n * n → assemble_refusal side t1 s1 q ≡ None
 assembled K n side t t1 s1 q values offs signs scratch none is st ss sq =
-    let a = and_parts (eqb (length t) (n * n)) _ (lengths K n t values offs signs scratch none) in
-    let b = and_parts (eqb values n) _ a.1 in
-    let c = and_parts (eqb offs (n - 1)) _ b.1 in
-    let d = and_parts (eqb signs (n - 1)) _ c.1 in
-    let as_table = st ∙ eqb-true (length t) (n * n) a.0 in
-    let as_signs = ss ∙ eqb-true signs (n - 1) d.0 in
-    let whole = agree n (length t1) (length s1) (length q) as_table as_signs sq in
+    let a = accepted K n t values offs signs scratch none in
+    let whole = agree n (length t1) (length s1) (length q) (st ∙ a.as_table) (ss ∙ a.as_signs) sq in
     rw (is, whole)
 
-pub unless_none : {A : Type 0} (o : Option Refusal) (was made now : A) → o ≡ None → now ≡ made → now ≡ unless_refused o was made
-unless_none o was made now none is = is ∙ rw none
+pub left : {A : Type 0} (o : Option Refusal) (was made now : A) → o ≡ None → now ≡ made → now ≡ unless_refused o was made
+left o was made now none is = is ∙ sym (unless_none o was made none)
 
 pub q_made : {C R : Type 0} (K : Kind C R) (n side : ℕ) (t t1 s1 : List C) → side ≡ n → t1 ≡ reduced_table K n t → s1 ≡ signs_of K n t →
     matrix_q K side (lower side 0 side t1) s1 ≡ q_of K n t
