@@ -28,6 +28,7 @@ pub fn settle<T: Scalar, K: Keeper<T>>(
     ensures run { IsRun T.ops T.Real.ops T.Real.real
         (start_of reduction values.old offs.old tolerance (K.kept keeper.old)) limit
         (finish_of (answer_of result) values.new offs.new (K.kept keeper.new)) }
+    ensures lent { K.lent keeper.new ≡ K.lent keeper.old }
     ensures any_keeper { AnyKeeper T.ops T.Real.ops T.Real.real
         (start_of reduction values.old offs.old tolerance (K.kept keeper.old)) limit
         (finish_of (answer_of result) values.new offs.new (K.kept keeper.new)) }

@@ -146,6 +146,7 @@ impl<R: RealScalar> Tridiagonal<'_, R> {
 fn turn_back<T: Scalar, K: Keeper<T>>(keeper: &mut K, i: usize, rotation: Rotation<T::Real>)
     ensures rows { K.kept keeper.new ≡
         kept_turned T.ops (turn_of i rotation.c rotation.s Back) (K.kept keeper.old) }
+    ensures lent { K.lent keeper.new ≡ K.lent keeper.old }
 {
     // Nothing is lost: a refused turn turns nothing, as `kept_turned` says.
     let _ = keeper.turn(&rotation.turn(i, Direction::Back));
@@ -168,6 +169,7 @@ pub(crate) fn chase<T: Scalar, K: Keeper<T>>(
         (chased T.Real.ops T.Real.real block.start block.end
         form.old.values.now form.old.offs.now).turns
         (K.kept keeper.old) }
+    ensures lent { K.lent keeper.new ≡ K.lent keeper.old }
 {
     let mut bulge = form.first_bulge(block);
     // A labelled break, a form that docs/DECISIONS.md lists, out of the rotations of the columns i and i + 1.

@@ -56,6 +56,7 @@ fn turn_to<T: Scalar, K: Keeper<T>>(
     requires { start + 1 < (K.kept keeper.old).width }
     ensures rows { K.kept keeper.new ≡ kept_all T.ops
         (basis_turns T.Real.ops T.Real.real tolerance start basis) (K.kept keeper.old) }
+    ensures lent { K.lent keeper.new ≡ K.lent keeper.old }
 {
     if let Some(found) = try_new(basis, tolerance) {
         // Nothing is lost: a refused turn turns nothing, as `kept_turned` says.
@@ -83,6 +84,7 @@ fn settle_pair<T: Scalar, K: Keeper<T>>(
         (pair_left T.Real.ops T.Real.real tolerance start
         form.old.values.now form.old.offs.now).turns
         (K.kept keeper.old) }
+    ensures lent { K.lent keeper.new ≡ K.lent keeper.old }
 {
     let eigenvalues = form.pair_at(start)?;
     let basis = basis_of(eigenvalues.x, form.corner_at(start));
@@ -112,6 +114,7 @@ pub(crate) fn pass<T: Scalar, K: Keeper<T>>(
         (pass_left T.Real.ops T.Real.real tolerance block.start block.end
         form.old.values.now form.old.offs.now).turns
         (K.kept keeper.old) }
+    ensures lent { K.lent keeper.new ≡ K.lent keeper.old }
 {
     if block.start + 1 < block.end {
         chase::<T, K>(form, keeper, block);

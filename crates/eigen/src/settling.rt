@@ -72,6 +72,7 @@ pub(crate) fn lawful_run<T: Scalar, K: Keeper<T>>(
         (start_of reduction.now form.old.values.now form.old.offs.now tolerance (K.kept keeper.old))
         (finish_of (answered result) form.new.values.now form.new.offs.now (K.kept keeper.new)) }
     ensures same { SameBuffers form.old form.new }
+    ensures lent { K.lent keeper.new ≡ K.lent keeper.old }
 {
     run::<T, K>(form, keeper, tolerance, limit, reduction.largest())
 }

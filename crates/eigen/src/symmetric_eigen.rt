@@ -40,6 +40,7 @@ pub(crate) fn run<T: Scalar, K: Keeper<T>>(
         (run_of T.Real.ops T.Real.real tolerance limit
         (length form.old.values.now) largest form.old.values.now form.old.offs.now).turns
         (K.kept keeper.old) }
+    ensures lent { K.lent keeper.new ≡ K.lent keeper.old }
 {
     let mut block = form.delimit_subproblem(form.offs.len(), tolerance);
     'passes: for count in 0..limit {

@@ -1,5 +1,5 @@
 // A keeper of rows in a slice that is handed in, column by column.
-ghost use Rattle.std.specs.Prelude.{◌≡◌, ◌+◌, ◌*◌, true, cond, length, OnErr};
+ghost use Rattle.std.specs.Prelude.{◌≡◌, ◌+◌, ◌*◌, [], ◌∷◌, true, cond, length, OnErr};
 ghost use Rattle.rows.specs.Keepers.{answered, kept_turned, turn_answer};
 ghost use Rattle.rows.specs.Makes.{all_rows, all_rows_fit, all_rows_check, counts_kept};
 ghost use Rattle.rows.specs.Sounds.{all_rows_sound};
@@ -11,6 +11,8 @@ use fault::{Fault, side_fits};
 use scalar::{Arithmetic, Scalar};
 
 // The counts stand beside the slice: `new` is handed all three, and nothing here allocates.
+// The slice lent holds, once the keeper is gone, what `cells` held last: it is the same one, by `same_slice` of `new` and of `turn`, and
+// through a bound, as in a run, by the trait's `lent`.
 #[derive(Drop)]
 pub struct AllRows<'a, T> {
     width: usize,
@@ -59,6 +61,8 @@ impl<'a, T: Scalar> AllRows<'a, T> {
 
 impl<'a, T: Scalar> Keeper<T> for AllRows<'a, T> {
     ghost kept = { λ k. all_rows T.ops.zero k.width k.count k.cells.now };
+
+    ghost lent = { λ k. k.cells.ghost_name ∷ [] };
 
     ghost sound = { λ k. all_rows_sound T.ops.zero k.width k.count k.cells.now };
 

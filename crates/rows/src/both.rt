@@ -1,5 +1,5 @@
 // A keeper of any two keepers: the first's rows, then the second's.
-ghost use Rattle.std.specs.Prelude.{◌≡◌, ◌+◌, length};
+ghost use Rattle.std.specs.Prelude.{◌≡◌, ◌+◌, ◌++◌, length};
 ghost use Rattle.rows.specs.Keepers.{answered, kept_turned, turn_answer};
 ghost use Rattle.rows.specs.Makes.{both, both_check, both_fit, either_cell};
 ghost use Rattle.rows.specs.Sounds.{both_sound};
@@ -85,6 +85,8 @@ impl<A, B> Both<A, B> {
             kept_turned T.ops turn.now (A.kept self.old.first) }
         ensures second { B.kept self.new.second ≡
             kept_turned T.ops turn.now (B.kept self.old.second) }
+        ensures first_lent { A.lent self.new.first ≡ A.lent self.old.first }
+        ensures second_lent { B.lent self.new.second ≡ B.lent self.old.second }
     {
         self.first.turn(turn)?;
         self.second.turn(turn)
@@ -105,6 +107,8 @@ impl<A, B> Both<A, B> {
 
 impl<T: Scalar, A: Keeper<T>, B: Keeper<T>> Keeper<T> for Both<A, B> {
     ghost kept = { λ k. both (A.kept k.first) (B.kept k.second) };
+
+    ghost lent = { λ k. A.lent k.first ++ B.lent k.second };
 
     ghost sound = { λ k. both_sound _ _ (A.sound k.first) (B.sound k.second) };
 

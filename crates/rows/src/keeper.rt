@@ -1,5 +1,5 @@
 // The trait of row keepers: whoever holds rows of a width, and turns them.
-ghost use Rattle.std.specs.Prelude.{◌≡◌, length};
+ghost use Rattle.std.specs.Prelude.{◌≡◌, ℕ, List, length};
 ghost use Rattle.rows.specs.Keepers.{Kept, Sound, answered, cell_at, kept_turned, turn_answer};
 
 use crate::turn::Turn;
@@ -8,6 +8,9 @@ use scalar::Scalar;
 
 pub trait Keeper<T: Scalar> {
     ghost kept: { Self → Kept T };
+
+    // The slices lent to it, by their names. None is exchanged for another: who lent one knows by this what it holds afterwards.
+    ghost lent: { Self → List ℕ };
 
     ghost sound: { (k : Self) → Sound (kept k) };
 
@@ -24,5 +27,6 @@ pub trait Keeper<T: Scalar> {
     // Turns two columns of every row.
     fn turn(&mut self, turn: &Turn<T::Real>) -> Result<(), Fault>
         ensures answer { answered result ≡ turn_answer (kept self.old) turn.now.column }
-        ensures rows { kept self.new ≡ kept_turned T.ops turn.now (kept self.old) };
+        ensures rows { kept self.new ≡ kept_turned T.ops turn.now (kept self.old) }
+        ensures lent { lent self.new ≡ lent self.old };
 }

@@ -37,6 +37,8 @@ impl NoRows {
 impl<T: Scalar> Keeper<T> for NoRows {
     ghost kept = { λ k. record { width = k.width; rows = [] } };
 
+    ghost lent = { λ k. [] };
+
     ghost sound = { λ k. no_rows_sound k.width };
 
     fn width(&self) -> usize {

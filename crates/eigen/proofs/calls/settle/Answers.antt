@@ -1,4 +1,4 @@
-use Rattle.std.proofs.Common.{ap}
+use Rattle.std.proofs.Common.{refl, ap}
 use Rattle.fault.specs.Refusals.{refusal}
 use Rattle.rows.specs.Keepers.{denied}
 use Rattle.eigen.specs.Laws.{IsRun, start_of, finish_of}
@@ -20,6 +20,7 @@ returns-in-Err g c =
     record {
       handed_back = ap (λ a. back_from a c.args.reduction.side c.args.reduction.largest) c.in-Err.ensures.answer;
       run = r;
+      lent = refl;
       any_keeper = any_keeper o p q s n f r;
       any_upper = any_upper o p q s n f r;
       any_limit = limits o p q s n f r;

@@ -16,6 +16,7 @@ chase-init g c =
           c.first_bulge-bulge.ensures.bulge;
       width = refl;
       same = search rules;
+      lent = refl;
     }
 
 pub chase-preserved : goal.chase-preserved
@@ -31,6 +32,7 @@ chase-preserved g c =
       width = turned_width g.T.Arithmetic.ops (turn_of c.chase.i c.in-Some.found.rotation.c c.in-Some.found.rotation.s Back) k _
           (g.K.Keeper.kept c.args.keeper.now) c.turn_back.ensures.rows c.chase.invariant.width;
       same = search rules;
+      lent = c.turn_back.ensures.lent ∙ c.chase.invariant.lent;
     }
 
 pub returns-after-chase : goal.returns-after-chase
@@ -39,7 +41,13 @@ returns-after-chase g c =
     c.chase.bulge c.chase.form.values.now c.chase.form.offs.now (omega arith) in
     let whole = sym (chase_done g.T.Arithmetic.ops c.chase.form.values.now c.chase.form.offs.now (g.K.Keeper.kept c.chase.keeper) _ over)
     ∙ c.chase.invariant.whole in
-    record { values = ap (λ l. l.values) whole; offs = ap (λ l. l.offs) whole; same = c.chase.invariant.same; rows = ap (λ l. l.kept) whole }
+    record {
+      values = ap (λ l. l.values) whole;
+      offs = ap (λ l. l.offs) whole;
+      same = c.chase.invariant.same;
+      rows = ap (λ l. l.kept) whole;
+      lent = c.chase.invariant.lent;
+    }
 
 pub returns-in_default : goal.returns-in_default
 returns-in_default g c =
@@ -47,4 +55,10 @@ returns-in_default g c =
     c.chase.bulge c.chase.form.values.now c.chase.form.offs.now (sym c.in_default.is ∙ c.cancel_y.ensures.rotation) in
     let whole = sym (chase_done g.T.Arithmetic.ops c.chase.form.values.now c.chase.form.offs.now (g.K.Keeper.kept c.chase.keeper) _ left)
     ∙ c.chase.invariant.whole in
-    record { values = ap (λ l. l.values) whole; offs = ap (λ l. l.offs) whole; same = c.chase.invariant.same; rows = ap (λ l. l.kept) whole }
+    record {
+      values = ap (λ l. l.values) whole;
+      offs = ap (λ l. l.offs) whole;
+      same = c.chase.invariant.same;
+      rows = ap (λ l. l.kept) whole;
+      lent = c.chase.invariant.lent;
+    }

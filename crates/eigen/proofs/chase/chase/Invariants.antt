@@ -16,4 +16,5 @@ invariant-chase g l = record {
       (g.K.Keeper.kept l.fn.keeper);
   width : (g.K.Keeper.kept l.keeper).width ≡ (g.K.Keeper.kept l.fn.keeper).width;
   same : SameBuffers l.fn.form l.form;
+  lent : g.K.Keeper.lent l.keeper ≡ g.K.Keeper.lent l.fn.keeper;
 }

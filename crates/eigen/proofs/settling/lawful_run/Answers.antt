@@ -24,4 +24,5 @@ returns g c =
       any_upper = any_upper o p q s n f r;
       any_limit = limits o p q s n f r;
       same = c.run.ensures.same;
+      lent = c.run.ensures.lent;
     }

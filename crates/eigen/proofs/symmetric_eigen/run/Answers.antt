@@ -22,6 +22,7 @@ passes-init g c =
       width = refl;
       inside = omega (arith, first.ensures.below, first.ensures.same.length);
       same = first.ensures.same;
+      lent = refl;
     }
 
 pub returns-in_default : goal.returns-in_default
@@ -36,7 +37,14 @@ returns-in_default g c =
     (sym (ends_single o p q c.args.tolerance c.args.limit c.passes.count c.passes.form.values.now c.passes.form.offs.now
     (block_in c.passes.block) (g.K.Keeper.kept c.passes.keeper) c.passes-test.true
     (ap (λ b. (block_in b).start) c.in_default.is ∙ sym (ap (λ b. (block_in b).end) c.in_default.is))) ∙ c.passes.invariant.whole) in
-    record { answer = end.0; values = c.scale_values.ensures.values ∙ end.1; offs = end.2; same = search rules; rows = end.3 }
+    record {
+      answer = end.0;
+      values = c.scale_values.ensures.values ∙ end.1;
+      offs = end.2;
+      same = search rules;
+      rows = end.3;
+      lent = c.passes.invariant.lent;
+    }
 
 pub returns-in_err-end : goal.returns-in_err-end
 returns-in_err-end g c =
@@ -63,6 +71,7 @@ returns-in_err-end g c =
       offs = end.2;
       same = search rules;
       rows = end.3;
+      lent = c.pass.ensures.lent ∙ c.passes.invariant.lent;
     }
 
 pub passes-preserved : goal.passes-preserved
@@ -90,6 +99,7 @@ passes-preserved g c =
       width = ap (λ k. k.width) c.pass.ensures.rows ∙ c.passes.invariant.width;
       inside = omega (arith, ends, falls, c.passes.invariant.inside, next.ensures.below, next.ensures.same.length, c.pass.ensures.same.length);
       same = search rules;
+      lent = c.pass.ensures.lent ∙ c.passes.invariant.lent;
     }
 
 pub returns : goal.returns
@@ -103,4 +113,11 @@ returns g c =
     (ended_of (not_settled c.args.limit) c.passes.form.values.now c.passes.form.offs.now (g.K.Keeper.kept c.passes.keeper))
     (sym (ends_over o p q c.args.tolerance c.args.limit c.passes.count c.passes.form.values.now c.passes.form.offs.now (block_in c.passes.block)
     (g.K.Keeper.kept c.passes.keeper) c.passes.auto.count-end c.passes-test.false) ∙ c.passes.invariant.whole) in
-    record { answer = end.0; values = end.1; offs = end.2; same = search rules; rows = end.3 }
+    record {
+      answer = end.0;
+      values = end.1;
+      offs = end.2;
+      same = search rules;
+      rows = end.3;
+      lent = c.passes.invariant.lent;
+    }

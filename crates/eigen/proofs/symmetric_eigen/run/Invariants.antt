@@ -17,4 +17,5 @@ invariant-passes g l = record {
   width : (g.K.Keeper.kept l.keeper).width ≡ (g.K.Keeper.kept l.fn.keeper).width;
   inside : (block_in l.block).end ≤ length l.form.offs.now;
   same : SameBuffers l.fn.form l.form;
+  lent : g.K.Keeper.lent l.keeper ≡ g.K.Keeper.lent l.fn.keeper;
 }
