@@ -1,10 +1,9 @@
 -- What is known of a table that is reduced in buffers made for its side.
-use Rattle.std.proofs.Common.{◌≡◌, ℕ, ◌-◌, ◌*◌, ◌<◌, ◌≤◌, true, false, eqb, ltb, ◌⊎◌, Bool, cond, List, [], length, Some, None, Option, sym, refl, ap, ◌∙◌, ⊎_elim, arith}
+use Rattle.std.proofs.Common.{◌≡◌, ℕ, ◌-◌, ◌*◌, ◌<◌, ◌≤◌, true, false, ◌⊎◌, List, [], length, Some, None, Option, sym, refl, ap, ◌∙◌, ⊎_elim, arith}
 use Rattle.std.proofs.lemmas.Bool.Decides.{nat_tests}
-use Rattle.std.proofs.lemmas.Bool.{or_left, or_right, eq-eqb, lt-ltb, eqb-true, and_parts}
 use Rattle.fault.specs.Refusals.{Refusal, refused}
 use Rattle.tridiagonal.specs.Accepted.{accepted, unless_none}
-use Rattle.tridiagonal.specs.Checks.{side_refused, lengths_agree, entry_refusal, reduce_refusal, refusal_for}
+use Rattle.tridiagonal.specs.Checks.{side_refused, reduce_refusal, refusal_for}
 use Rattle.tridiagonal.specs.Householder.{Kind}
 use Rattle.tridiagonal.specs.Outcome.{Reduced, reduce_outcome, unless_refused}
 use Rattle.tridiagonal.specs.Reduce.{largest_size, reduced_table, values_of, offs_of, signs_of}

@@ -1,6 +1,6 @@
 -- What a reduction leaves is assembled.
-use Rattle.std.proofs.Common.{◌≡◌, ℕ, ◌-◌, ◌*◌, true, eqb, List, length, None, Option, sym, refl, ◌∙◌}
-use Rattle.std.proofs.lemmas.Bool.{and_parts, eqb-true, eq-eqb}
+use Rattle.std.proofs.Common.{◌≡◌, ℕ, ◌-◌, ◌*◌, true, List, length, None, Option, sym, refl, ◌∙◌}
+use Rattle.std.proofs.lemmas.Bool.{eq-eqb}
 use Rattle.fault.specs.Refusals.{Refusal}
 use Rattle.symmetric_eigen_c.specs.Forms.{q_of}
 use Rattle.tridiagonal.specs.Assemble.{assemble_lengths, assemble_refusal, matrix_q}
