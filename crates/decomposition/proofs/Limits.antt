@@ -42,7 +42,8 @@ module _ {C R : Type 0} (K : Kind C R) (f : Form C R) where
   passes_in starved = given 0
 
   -- a run that is solved gave its passes
-  passes_given : (vectors : List C) (run : Run R) (a : Answer ℕ) (e : Eigen C R) → ended_with K vectors f run a ≡ solved e → a ≡ given e.passes
+  passes_given : (vectors : List C) (run : Run R) (a : Answer ℕ) (e : Eigen C R) → ended_with K vectors f run a ≡ solved e →
+      a ≡ given e.passes
   unfolding passes_in
   passes_given vectors run (given passes) e is = ap passes_in is
   passes_given vectors run (denied why) e is = ap passes_in is
@@ -53,7 +54,8 @@ module _ {C R : Type 0} (K : Kind C R) (f : Form C R) where
   ended_same vectors vectors' run run' a a' passes is is' ev ec = rw (is, is', ev, ec)
 
   -- a run that is denied
-  ended_denied : (vectors : List C) (run : Run R) (a : Answer ℕ) (why : Refusal) → a ≡ denied why → ended_with K vectors f run a ≡ failed why
+  ended_denied : (vectors : List C) (run : Run R) (a : Answer ℕ) (why : Refusal) → a ≡ denied why →
+      ended_with K vectors f run a ≡ failed why
   ended_denied vectors run a why is = rw is
 
   module _ (tolerance : R) (k : Kept C) where
@@ -104,8 +106,8 @@ module _ {C R : Type 0} (K : Kind C R) (f : Form C R) where
           above = λ e m s ok h.
               let a = given_in e s in
               let same = (any e.passes m begun (finished m) (answer ∙ a) alike (finishes wide m)).0 ok h in
-              ended_same (columns_kept K (kept_all K.ops (run limit).turns k)) (columns_kept K (kept_all K.ops (run m).turns k)) (run limit) (run m)
-              (run limit).answer (run m).answer e.passes a (sym same.answer ∙ answer ∙ a) (sym values ∙ same.values)
+              ended_same (columns_kept K (kept_all K.ops (run limit).turns k)) (columns_kept K (kept_all K.ops (run m).turns k)) (run limit)
+              (run m) (run limit).answer (run m).answer e.passes a (sym same.answer ∙ answer ∙ a) (sym values ∙ same.values)
               (same_columns (kept_all K.ops (run limit).turns k) (kept_all K.ops (run m).turns k)
               (ap (λ (x : Kept C). x.rows) (sym kept ∙ same.kept)) refl);
           within = λ e m s least h.

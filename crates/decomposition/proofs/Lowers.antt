@@ -27,20 +27,21 @@ module _ {C R : Type 0} (K : Kind C R) (n : ℕ) where
   abbrev run_for : List C → Reducing C R
   run_for t = call n (given_for t) (Reduced n (largest_size K t)) (left_for t)
 
-  same_refusal : (t : List C) (v f s c : ℕ) → v ≡ n → f ≡ n - 1 → s ≡ n - 1 → c ≡ n - 1 → reduce_refusal K n t v f s c ≡ table_refusal K n t
+  same_refusal : (t : List C) (v f s c : ℕ) → v ≡ n → f ≡ n - 1 → s ≡ n - 1 → c ≡ n - 1 →
+      reduce_refusal K n t v f s c ≡ table_refusal K n t
   same_refusal t v f s c ev ef es ec = cc
 
   runs : (t : List C) → table_refusal K n t ≡ None → ReduceRun K n (given_for t) (Reduced n (largest_size K t)) (left_for t)
   runs t none =
       accepted_run K n (given_for t) (Reduced n (largest_size K t)) (left_for t)
-      (same_refusal t _ _ _ _ (length-replicate n K.reals.zero) (length-replicate (n - 1) K.reals.zero) (length-replicate (n - 1) K.ops.zero)
-      (length-replicate (n - 1) K.ops.zero) ∙ none) refl refl refl refl refl refl
+      (same_refusal t _ _ _ _ (length-replicate n K.reals.zero) (length-replicate (n - 1) K.reals.zero)
+      (length-replicate (n - 1) K.ops.zero) (length-replicate (n - 1) K.ops.zero) ∙ none) refl refl refl refl refl refl
 
-  same_form : (t u : List C) → table_refusal K n t ≡ None → table_refusal K n u ≡ None → AlikeBelow n t u → largest_size K t ≡ largest_size K u →
-      SameForm K n (left_for t) (left_for u)
+  same_form : (t u : List C) → table_refusal K n t ≡ None → table_refusal K n u ≡ None → AlikeBelow n t u →
+      largest_size K t ≡ largest_size K u → SameForm K n (left_for t) (left_for u)
   same_form t u none none' below size =
-      only_lower K n (given_for t) (Reduced n (largest_size K t)) (left_for t) (runs t none) (run_for u) n (largest_size K t) (runs u none') refl
-      (ap (Reduced n) (sym size)) below
+      only_lower K n (given_for t) (Reduced n (largest_size K t)) (left_for t) (runs t none) (run_for u) n (largest_size K t)
+      (runs u none') refl (ap (Reduced n) (sym size)) below
 
   ended_alike : (v w : List C) (f g : Form C R) (r s : Run R) (a b : Answer ℕ) → v ≡ w → f.largest ≡ g.largest → r ≡ s → a ≡ b →
       ended_with K v f r a ≡ ended_with K w g s b

@@ -7,8 +7,8 @@ use Rattle.tridiagonal.specs.Reduce.{largest_size}
 use Rattle.tridiagonal.specs.Runs.{AlikeBelow}
 use Rattle.decomposition.specs.Solutions.{Eigen, Solution, solved, failed, table_refusal, solution}
 
--- A solution beside what the same comes to at each limit. If it is solved, in so many passes, it is the same at each allowed limit above them,
--- and at each limit from 1 to them it is NOT SETTLED, with that limit as its count.
+-- A solution beside what the same comes to at each limit. If it is solved, in so many passes, it is the same at each allowed limit above
+-- them, and at each limit from 1 to them it is NOT SETTLED, with that limit as its count.
 pub record Limits {C R : Type 0} (s : Solution C R) (at : ℕ → Solution C R) : Type 0 where
   pub above : (e : Eigen C R) (m : ℕ) → s ≡ solved e → limit_fits m ≡ true → e.passes < m → at m ≡ s
   pub within : (e : Eigen C R) (m : ℕ) → s ≡ solved e → 1 ≤ m → m ≤ e.passes → at m ≡ failed (refused 7 (m ∷ []))

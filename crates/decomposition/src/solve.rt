@@ -72,7 +72,7 @@ fn solved<T: Scalar, K: Keeper<T>>(
 
 // The eigenvalues of a table of side n, column by column, of which the lower triangle and the largest size are read.
 // The side, the tolerance and the limit stand apart, as `reduce` and `settle` take them.
-#[tactic(auto, using(crate::proofs::Whole::unformed, crate::proofs::Whole::unformed_side, crate::proofs::Limits::limits_unformed, crate::proofs::Lowers::lower_triangle))]
+#[tactic(auto, using(crate::proofs::Whole::solution_laws))]
 pub fn symmetric_eigenvalues<T: Scalar>(
     heap: Global,
     n: usize,
@@ -94,7 +94,7 @@ pub fn symmetric_eigenvalues<T: Scalar>(
 }
 
 // The same with the eigenvectors.
-#[tactic(auto, using(crate::proofs::Whole::unformed, crate::proofs::Whole::unformed_side, crate::proofs::Whole::same_values, crate::proofs::Limits::limits_unformed, crate::proofs::Limits::limits_starved, crate::proofs::Lowers::lower_triangle))]
+#[tactic(auto, using(crate::proofs::Whole::solution_laws))]
 pub fn symmetric_eigen<T: Scalar>(
     heap: Global,
     n: usize,

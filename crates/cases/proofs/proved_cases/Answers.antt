@@ -22,16 +22,22 @@ unfolding lt le eq neg add sub mul div is_nan of_bits to_bits float_is_finite fl
 returns c = record {
   cases = (
     λ asked. refl,
-    ((refl, refl, refl),
-    (λ asked. (refl, refl),
-    (λ asked. refl,
-    (λ asked. (refl, refl),
-    (λ asked. (refl, refl),
-    (λ asked. (refl, refl),
-    (λ asked. refl,
-    (λ asked. (refl, refl),
-    (refl,
-    (refl, tt)))))))))),
+    (
+      (refl, refl, refl),
+      (
+        λ asked. (refl, refl),
+        (
+          λ asked. refl,
+          (
+            λ asked. (refl, refl),
+            (
+              λ asked. (refl, refl),
+              (λ asked. (refl, refl), (λ asked. refl, (λ asked. (refl, refl), (refl, (refl, tt))))),
+            ),
+          ),
+        ),
+      ),
+    ),
   );
   count = c.number_of_cases.ensures.count;
 }

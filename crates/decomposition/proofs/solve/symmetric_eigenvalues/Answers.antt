@@ -24,7 +24,8 @@ returns-clause-limits g c =
     let told = c.in_ok-form.ensures.form in
     let w = c.new-keeper.result.width in
     limits_of (settled_with K (record { width = w; rows = [] }) f c.args.tolerance)
-    (solution K false c.args.n (vec_items c.args.table) c.args.tolerance) c.args.limit (had_room c.solved.result) (solution_of c.solved.result)
+    (solution K false c.args.n (vec_items c.args.table) c.args.tolerance) c.args.limit (had_room c.solved.result)
+    (solution_of c.solved.result)
     (λ m. settled_with_none K f c.args.tolerance m w ∙ solves K c.args.n (vec_items c.args.table) c.args.tolerance m false f told.0 told.1)
     (returns-clause-solution g c) c.solved.ensures.limits
 
