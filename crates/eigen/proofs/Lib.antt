@@ -2,5 +2,5 @@ mod Falls
 mod Turned
 mod Running
 mod Limits
-mod Agreement
+pub mod Agreement
 mod Uppers

@@ -1,5 +1,6 @@
 pub mod Hexadecimal
 pub mod Joining
+pub mod Limits
 pub mod Sizes
 pub mod Tables
 pub mod Vectors

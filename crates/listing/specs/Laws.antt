@@ -1,15 +1,20 @@
 -- Laws over whole listings. Definitions only.
-use Rattle.std.specs.Prelude.{◌≡◌, ℕ, ◌*◌, ◌≤◌, List, [], ◌++◌, length, Some, None, Option, ◌≢◌}
+use Rattle.std.specs.Prelude.{◌≡◌, ℕ, ◌*◌, ◌<◌, ◌≤◌, true, List, [], ◌∷◌, ◌++◌, length, Some, None, Option, ◌≢◌}
 use Rattle.std.specs.List.{AllByRecursion}
+use Rattle.fault.specs.Bounds.{limit_fits}
+use Rattle.fault.specs.Refusals.{refused}
 use Rattle.tridiagonal.specs.Reduce.{largest_size}
 use Rattle.decomposition.specs.Solutions.{Solution, solved, failed, starved}
 use Rattle.job.specs.Typed.{entries}
 use Rattle.sheet.specs.declared.desk.Asked.{Asked}
 use Rattle.sheet.specs.declared.desk.Asked.TheVariants.{Values, Vectors}
 use Rattle.sheet.specs.Desk.{Table, real_table, outline_table, reals, outlines}
+use Rattle.sheet.specs.declared.kind.Kind.{Kind}
+use Rattle.sheet.specs.Faults.{rule}
 use Rattle.sheet.specs.Laws.{ClosesAll, cut_off, later}
 use Rattle.sheet.specs.Sheets.{Stop, run}
 use Rattle.listing.specs.declared.line.Line.{Line}
+use Rattle.listing.specs.declared.line.Line.TheVariants.{Heading}
 use Rattle.listing.specs.Listings.{Listed, Made, lists, fails, entry_lines, lines, listed, longest, made_of_table, outline_kind, real_kind, solution_of_typed}
 use Rattle.listing.specs.Shown.{reals_shown, outlines_shown}
 
@@ -54,6 +59,22 @@ pub record AddsRowsTo (t : Table) : Type 0 where
 
 abbrev pub AddsRows : List ℕ → Type 0
 AddsRows s = AllByRecursion (λ c. AddsRowsTo c.table) (run s).tables
+
+-- The same table, with another limit.
+abbrev pub limited : ℕ → Table → Table
+limited m (real_table asked j) = real_table asked (record j { limit = m })
+limited m (outline_table asked j) = outline_table asked (record j { limit = m })
+
+-- A solved table tells its passes in its heading. At each limit above them that a table can have it lists the same, and at each from 1 to
+-- them it is not settled, with that limit as its count.
+abbrev pub AtLimits : Table → Type 0
+AtLimits t = (kind : Kind) (side largest passes m : ℕ) (rest : List Line) →
+    made_of_table t ≡ lists (Heading kind side largest passes ∷ rest) →
+    (limit_fits m ≡ true → passes < m → made_of_table (limited m t) ≡ made_of_table t) ×
+    (1 ≤ m → m ≤ passes → made_of_table (limited m t) ≡ fails (rule (refused 7 (m ∷ []))))
+
+abbrev pub AnyLimit : List ℕ → Type 0
+AnyLimit s = AllByRecursion (λ c. AtLimits c.table) (run s).tables
 
 -- What follows a refused command does not matter, be it refused by the reader or as its table is solved. (A command that is cut
 -- off is another one when more bytes follow.) So it is of a sheet's tables, whatever its length, and of its listing where the longer

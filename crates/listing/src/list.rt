@@ -3,7 +3,7 @@ ghost use Rattle.std.specs.Prelude.{◌≡◌, IfOk, IsOkUnless};
 ghost use Rattle.sheet.specs.Desk.{table_of};
 ghost use Rattle.sheet.specs.Laws.{Final, Gathers, Joins};
 ghost use Rattle.sheet.specs.declared.sheet_fault.SheetFault.TheVariants.{Memory};
-ghost use Rattle.listing.specs.Laws.{AddsRows, ListsBehind, Reduces, TablesBehind, TablesUnlisted, Unlisted};
+ghost use Rattle.listing.specs.Laws.{AddsRows, AnyLimit, ListsBehind, Reduces, TablesBehind, TablesUnlisted, Unlisted};
 ghost use Rattle.listing.specs.Listings.{lines as listed_lines, listed, listing_of, made_of_table};
 ghost use Rattle.listing.specs.Steps.{Makes, Steps};
 
@@ -81,6 +81,8 @@ pub fn list_sheet(heap: Global, sheet: &[u8]) -> Result<Listing, SheetFault>
     ensures reduces { Reduces sheet.now }
     // asked for vectors, a table lists what it does asked for values, and then a line for each entry of its vectors
     ensures adds_rows { AddsRows sheet.now }
+    // a table that is solved in so many passes lists the same at each larger limit, and at each from 1 to them is refused 7
+    ensures any_limit { AnyLimit sheet.now }
     // what follows a refused command is not read, nor listed, be it refused by the reader or as its table is solved
     ensures unread { Final sheet.now }
     ensures unlisted { Unlisted sheet.now }
