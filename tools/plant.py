@@ -65,7 +65,8 @@ def turned(line):
             for other in others:
                 yield line[:found.start()] + other + line[found.end():]
     for found in re.finditer(r"(?<![\w.#])(0x[0-9A-Fa-f_]+|\d[\d_]*)(?![\w.])", line):
-        value = int(found.group(1).replace("_", ""), 0)
+        digits = found.group(1).replace("_", "")
+        value = int(digits, 16 if digits.startswith("0x") else 10)
         for other in {value + 1, max(0, value - 1)} - {value}:
             yield line[:found.start()] + str(other) + line[found.end():]
     for found in re.finditer(r"\((&?(?:mut )?[\w.]+), (&?(?:mut )?[\w.]+)(?=[,)])", line):
