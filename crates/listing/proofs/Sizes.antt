@@ -1,9 +1,9 @@
 -- The largest size of a table, as it is gathered and as a reduction finds it.
-use Rattle.std.proofs.Common.{◌≡◌, ℕ, List, [], ◌∷◌, fold, refl, ◌∙◌}
+use Rattle.std.proofs.Common.{◌≡◌, ℕ, List, [], ◌∷◌, refl, ◌∙◌}
 use Rattle.std.specs.List.{AllByRecursion}
 use Rattle.tridiagonal.specs.Householder.{Kind}
 use Rattle.tridiagonal.specs.Reduce.{largest_size}
-use Rattle.job.specs.Gathered.{gather, largest_size as gatheredSize}
+use Rattle.job.specs.Gathered.{largest_size as gatheredSize}
 use Rattle.sheet.specs.Desk.{Table, real_table, outline_table}
 use Rattle.sheet.specs.Laws.{gathered_table}
 use Rattle.sheet.specs.Sheets.{Closing, run}
