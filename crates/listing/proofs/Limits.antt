@@ -4,6 +4,7 @@ use Rattle.std.specs.List.{AllByRecursion}
 use Rattle.fault.specs.Bounds.{limit_fits}
 use Rattle.fault.specs.Refusals.{refused}
 use Rattle.tridiagonal.specs.Householder.{Kind}
+use Rattle.decomposition.specs.Kinds.{r64, c64}
 use Rattle.decomposition.specs.Solutions.{Solution, solved, failed, starved}
 use Rattle.decomposition.proofs.Limits.{limits}
 use Rattle.job.specs.Typed.{Typed, entries}
@@ -15,7 +16,7 @@ use Rattle.sheet.specs.Sheets.{Closing, run}
 use Rattle.listing.specs.declared.line.Line.{Line}
 use Rattle.listing.specs.declared.line.Line.TheVariants.{Heading}
 use Rattle.listing.specs.Laws.{AnyLimit, AtLimits}
-use Rattle.listing.specs.Listings.{lists, fails, made_from, made_of_typed, real_kind, outline_kind, solution_of_typed, wants_vectors}
+use Rattle.listing.specs.Listings.{lists, fails, made_from, made_of_typed, solution_of_typed, wants_vectors}
 use Rattle.listing.specs.Shown.{ShownAs, reals_shown, outlines_shown}
 
 module _ {C : Type 0} (S : ShownAs C) (K : Kind C Float) (asked : Asked) (j : Typed C Float) where
@@ -39,8 +40,8 @@ module _ {C : Type 0} (S : ShownAs C) (K : Kind C Float) (asked : Asked) (j : Ty
       by starved is listed = absurd (cc)
 
 of_table : (t : Table) → AtLimits t
-of_table (real_table asked j) = typed_limit reals_shown real_kind asked j
-of_table (outline_table asked j) = typed_limit outlines_shown outline_kind asked j
+of_table (real_table asked j) = typed_limit reals_shown r64 asked j
+of_table (outline_table asked j) = typed_limit outlines_shown c64 asked j
 
 of_all : (cs : List Closing) → AllByRecursion (λ c. AtLimits c.table) cs
 of_all [] = tt
