@@ -10,7 +10,7 @@ use Rattle.decomposition.specs.declared.failure.Failure.{Failure}
 use Rattle.decomposition.specs.declared.failure.Failure.TheVariants.{Solver, Memory}
 use Rattle.decomposition.specs.Solutions.{Form, Solution, failed, ended, settled_form, unless_failed, task_of, table_refusal, reduced_form, solution, solution_of, had_room, given_room, SameButVectors}
 use Rattle.decomposition.specs.Forms.{Reduces}
-use Rattle.decomposition.proofs.Limits.{limits_unformed, limits_starved}
+use Rattle.decomposition.proofs.Limits.{limits}
 use Rattle.decomposition.proofs.Lowers.{lower_triangle}
 use Rattle.decomposition.proofs.Reducing.{side_refusal}
 
@@ -71,4 +71,4 @@ module _ {C R : Type 0} (K : Kind C R) (n : ℕ) (t : List C) (tolerance : R) (l
       subst (λ (x : Solution C R). SameButVectors x (given_room room (solution K false n t tolerance limit))) (sym is) (same_room room)
 
 -- what both calls promise where there is no form or no memory, and what does not depend on that
-pub ruleset solution_laws = (unformed, unformed_side, same_values, limits_unformed, limits_starved, lower_triangle)
+pub ruleset solution_laws = (unformed, unformed_side, same_values, limits, lower_triangle)

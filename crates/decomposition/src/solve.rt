@@ -39,10 +39,6 @@ fn solved<T: Scalar, K: Keeper<T>>(
     requires width { (K.kept keeper.old).width ≡ form.reduction.side }
     ensures solution { solution_of result ≡ given_room (had_room result)
         (settled_with (kind T.ops T.Real.ops T.Real.real) (K.kept keeper.old) (form_of form) tolerance limit) }
-    // handed on from `settle`, whether memory is wanting or not
-    ensures limits { Limits
-        (settled_with (kind T.ops T.Real.ops T.Real.real) (K.kept keeper.old) (form_of form) tolerance limit)
-        (settled_with (kind T.ops T.Real.ops T.Real.real) (K.kept keeper.old) (form_of form) tolerance) }
     ensures counts { IfOk result (Counts form.reduction.side (form.reduction.side * length (K.kept keeper.old).rows)) }
 {
     let Form {
@@ -85,7 +81,10 @@ pub fn symmetric_eigenvalues<T: Scalar>(
     // of a side that is refused no want of memory is told
     ensures side { side_refused n ≡ true → solution_of result ≡ failed (refused 1 []) }
     ensures counts { IfOk result (Counts n 0) }
-    ensures limits { Limits (solution_of result) (solution (kind T.ops T.Real.ops T.Real.real) false n table.items tolerance) }
+    // laws of the definition that `solution` ties the answer to
+    ensures limits { Limits
+        (solution (kind T.ops T.Real.ops T.Real.real) false n table.items tolerance limit)
+        (solution (kind T.ops T.Real.ops T.Real.real) false n table.items tolerance) }
     ensures lower_triangle { LowerTriangle (kind T.ops T.Real.ops T.Real.real) n table.items tolerance limit }
 {
     let form = reduced(heap, n, table)?;
@@ -110,7 +109,10 @@ pub fn symmetric_eigen<T: Scalar>(
     // the largest size, the passes, the values and the refusals are those of the values alone
     ensures same_values { SameButVectors (solution_of result) (given_room (had_room result)
         (solution (kind T.ops T.Real.ops T.Real.real) false n table.items tolerance limit)) }
-    ensures limits { Limits (solution_of result) (solution (kind T.ops T.Real.ops T.Real.real) true n table.items tolerance) }
+    // laws of the definition that `solution` ties the answer to
+    ensures limits { Limits
+        (solution (kind T.ops T.Real.ops T.Real.real) true n table.items tolerance limit)
+        (solution (kind T.ops T.Real.ops T.Real.real) true n table.items tolerance) }
     ensures lower_triangle { LowerTriangle (kind T.ops T.Real.ops T.Real.real) n table.items tolerance limit }
 {
     let form = reduced(heap, n, table)?;

@@ -12,6 +12,7 @@ use Rattle.tridiagonal.specs.Householder.{Kind}
 use Rattle.tridiagonal.specs.Tables.{lower}
 use Rattle.eigen.specs.Runs.{Run}
 use Rattle.eigen.specs.Settles.{settle_of}
+use Rattle.decomposition.specs.Kinds.{r64, c64}
 use Rattle.decomposition.specs.Solutions.{Form, Solution, solved, failed, starved, ended, settled_form, unless_failed, task_of, table_refusal, reduced_form, rows_of_q, vectors_of, solution, SameButVectors}
 use Rattle.decomposition.proofs.HeldRows.{length_columns}
 use Rattle.decomposition.proofs.Whole.{same_values}
@@ -22,7 +23,7 @@ use Rattle.sheet.specs.Sheets.{Closing, run}
 use Rattle.listing.specs.declared.line.Line.{Line}
 use Rattle.listing.specs.declared.line.Line.TheVariants.{Heading}
 use Rattle.listing.specs.Laws.{AddsRows, AddsRowsTo, followed_by, vectors_in}
-use Rattle.listing.specs.Listings.{entry_lines, lists, made_from, made_of_typed, real_kind, outline_kind, solution_of_typed, value_lines}
+use Rattle.listing.specs.Listings.{entry_lines, lists, made_from, made_of_typed, solution_of_typed, value_lines}
 use Rattle.listing.specs.Shown.{ShownAs, reals_shown, outlines_shown}
 
 -- no vectors where none are asked for
@@ -122,12 +123,12 @@ module _ {C : Type 0} (S : ShownAs C) where
 
 of_table : (t : Table) → AddsRowsTo t
 of_table (real_table asked j) = record {
-  follow = typed_more reals_shown real_kind j;
-  many = typed_places reals_shown real_kind j;
+  follow = typed_more reals_shown r64 j;
+  many = typed_places reals_shown r64 j;
 }
 of_table (outline_table asked j) = record {
-  follow = typed_more outlines_shown outline_kind j;
-  many = typed_places outlines_shown outline_kind j;
+  follow = typed_more outlines_shown c64 j;
+  many = typed_places outlines_shown c64 j;
 }
 
 of_all : (cs : List Closing) → AllByRecursion (λ c. AddsRowsTo c.table) cs

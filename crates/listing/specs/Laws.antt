@@ -4,6 +4,7 @@ use Rattle.std.specs.List.{AllByRecursion}
 use Rattle.fault.specs.Bounds.{limit_fits}
 use Rattle.fault.specs.Refusals.{refused}
 use Rattle.tridiagonal.specs.Reduce.{largest_size}
+use Rattle.decomposition.specs.Kinds.{r64, c64}
 use Rattle.decomposition.specs.Solutions.{Solution, solved, failed, starved}
 use Rattle.job.specs.Typed.{entries}
 use Rattle.sheet.specs.declared.desk.Asked.{Asked}
@@ -15,13 +16,13 @@ use Rattle.sheet.specs.Laws.{ClosesAll, cut_off, later}
 use Rattle.sheet.specs.Sheets.{Stop, run}
 use Rattle.listing.specs.declared.line.Line.{Line}
 use Rattle.listing.specs.declared.line.Line.TheVariants.{Heading}
-use Rattle.listing.specs.Listings.{Listed, Made, lists, fails, entry_lines, lines, listed, longest, made_of_table, outline_kind, real_kind, solution_of_typed}
+use Rattle.listing.specs.Listings.{Listed, Made, lists, fails, entry_lines, lines, listed, longest, made_of_table, solution_of_typed}
 use Rattle.listing.specs.Shown.{reals_shown, outlines_shown}
 
 -- The largest size that was gathered as a table was typed is the one that its reduction finds and divides by.
 abbrev pub reduces_by : Table → Type 0
-reduces_by (real_table asked j) = j.largest ≡ largest_size real_kind (entries reals j)
-reduces_by (outline_table asked j) = j.largest ≡ largest_size outline_kind (entries outlines j)
+reduces_by (real_table asked j) = j.largest ≡ largest_size r64 (entries reals j)
+reduces_by (outline_table asked j) = j.largest ≡ largest_size c64 (entries outlines j)
 
 abbrev pub Reduces : List ℕ → Type 0
 Reduces s = AllByRecursion (λ c. reduces_by c.table) (run s).tables
@@ -44,8 +45,8 @@ vectors_in starved = []
 
 -- A line for each entry of the vectors that a table's decomposition gives.
 abbrev pub vector_lines : Table → List Line
-vector_lines (real_table asked j) = entry_lines reals_shown j.side (vectors_in (solution_of_typed real_kind Vectors j))
-vector_lines (outline_table asked j) = entry_lines outlines_shown j.side (vectors_in (solution_of_typed outline_kind Vectors j))
+vector_lines (real_table asked j) = entry_lines reals_shown j.side (vectors_in (solution_of_typed r64 Vectors j))
+vector_lines (outline_table asked j) = entry_lines outlines_shown j.side (vectors_in (solution_of_typed c64 Vectors j))
 
 abbrev pub side_of : Table → ℕ
 side_of (real_table asked j) = j.side

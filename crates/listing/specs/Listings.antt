@@ -4,17 +4,17 @@ use Rattle.std.specs.Float.{binary64}
 use Rattle.std.specs.List.{enumerate_from}
 use Rattle.std.specs.declared.vec.Vec.{Vec}
 use Rattle.fault.specs.Refusals.{refused, refusal}
-use Rattle.scalar.specs.declared.point.Complex.{Complex}
-use Rattle.tridiagonal.specs.Householder.{Kind, kind}
+use Rattle.tridiagonal.specs.Householder.{Kind}
 use Rattle.decomposition.specs.declared.failure.Failure.{Failure}
 use Rattle.decomposition.specs.declared.failure.Failure.TheVariants.{Solver, Memory}
+use Rattle.decomposition.specs.Kinds.{r64, c64}
 use Rattle.decomposition.specs.Solutions.{Eigen, Solution, solved, failed, starved, solution}
 use Rattle.job.specs.Typed.{Typed, entries}
 use Rattle.sheet.specs.declared.desk.Asked.{Asked}
 use Rattle.sheet.specs.declared.desk.Asked.TheVariants.{Values, Vectors}
 use Rattle.sheet.specs.declared.sheet_fault.Refusal.{Refusal}
 use Rattle.sheet.specs.declared.sheet_fault.SheetFault.{SheetFault}
-use Rattle.sheet.specs.Desk.{Table, real_table, outline_table, reals, outlines, real_rules, room_for}
+use Rattle.sheet.specs.Desk.{Table, real_table, outline_table, room_for}
 use Rattle.sheet.specs.Faults.{Why, rule, memory, why}
 use Rattle.sheet.specs.Laws.{Read, read_of}
 use Rattle.sheet.specs.Sheets.{Closing, Stop, stop, run}
@@ -64,15 +64,9 @@ module _ {C : Type 0} (S : ShownAs C) where
   abbrev pub made_of_typed : Kind C Float → Asked → Typed C Float → Made
   made_of_typed K asked j = made_from j.side j.largest (solution_of_typed K asked j)
 
-abbrev pub real_kind : Kind Float Float
-real_kind = kind reals reals real_rules
-
-abbrev pub outline_kind : Kind (Complex Float) Float
-outline_kind = kind outlines reals real_rules
-
 abbrev pub made_of_table : Table → Made
-made_of_table (real_table asked j) = made_of_typed reals_shown real_kind asked j
-made_of_table (outline_table asked j) = made_of_typed outlines_shown outline_kind asked j
+made_of_table (real_table asked j) = made_of_typed reals_shown r64 asked j
+made_of_table (outline_table asked j) = made_of_typed outlines_shown c64 asked j
 
 pub record Listed : Type 0 where
   pub lines : List Line

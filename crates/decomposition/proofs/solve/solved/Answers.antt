@@ -1,8 +1,6 @@
 use Rattle.std.proofs.Common.{ℕ, ◌*◌, length, ap, ◌∙◌}
 use Rattle.std.proofs.lemmas.List.{with_items_is}
 use Rattle.tridiagonal.specs.Householder.{kind}
-use Rattle.decomposition.specs.Forms.{form_of}
-use Rattle.decomposition.proofs.Limits.{limits_run}
 use Rattle.decomposition.proofs.Settling.{count_columns}
 use Rattle.decomposition.proofs.solve.solved.Goals as goal
 
@@ -17,18 +15,3 @@ returns-clause-counts g c =
           count_columns K _ _ _ _ c.settle.ensures.run c.in_ok-vectors.ensures.cells
           ∙ ap (λ (w : ℕ). w * length kept.rows) c.requires.width;
     }
-
-pub returns-clause-limits : goal.returns-clause-limits
-returns-clause-limits g c =
-    limits_run (kind g.T.Arithmetic.ops g.T.Real.Arithmetic.ops g.T.Real.RealScalar.real) (form_of c.args.form) c.args.tolerance _ _ _ _ _
-    c.deref_mut.ensures.value c.deref_mut-2.ensures.value c.requires.width c.settle.ensures.run c.settle.ensures.any_limit
-
-pub returns-in_err-passes-clause-limits : goal.returns-in_err-passes-clause-limits
-returns-in_err-passes-clause-limits g c =
-    limits_run (kind g.T.Arithmetic.ops g.T.Real.Arithmetic.ops g.T.Real.RealScalar.real) (form_of c.args.form) c.args.tolerance _ _ _ _ _
-    c.deref_mut.ensures.value c.deref_mut-2.ensures.value c.requires.width c.settle.ensures.run c.settle.ensures.any_limit
-
-pub returns-in_err-vectors-clause-limits : goal.returns-in_err-vectors-clause-limits
-returns-in_err-vectors-clause-limits g c =
-    limits_run (kind g.T.Arithmetic.ops g.T.Real.Arithmetic.ops g.T.Real.RealScalar.real) (form_of c.args.form) c.args.tolerance _ _ _ _ _
-    c.deref_mut.ensures.value c.deref_mut-2.ensures.value c.requires.width c.settle.ensures.run c.settle.ensures.any_limit

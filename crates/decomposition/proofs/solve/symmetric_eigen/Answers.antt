@@ -4,8 +4,8 @@ use Rattle.rows.specs.Keepers.{Kept}
 use Rattle.rows.specs.Makes.{all_rows}
 use Rattle.tridiagonal.specs.Householder.{kind}
 use Rattle.decomposition.specs.Forms.{Counts, form_of}
-use Rattle.decomposition.specs.Solutions.{Form, given_room, had_room, settled_with, solution, solution_of}
-use Rattle.decomposition.proofs.Limits.{limits_of}
+use Rattle.decomposition.specs.Solutions.{Form, given_room, had_room, solution_of}
+use Rattle.decomposition.proofs.Limits.{limits}
 use Rattle.decomposition.proofs.Lowers.{lower_triangle}
 use Rattle.decomposition.proofs.Settling.{assembled, held_of_q, rows_held, settled_with_q, count_of_q}
 use Rattle.decomposition.proofs.Whole.{solves, same_values, no_form}
@@ -45,10 +45,6 @@ returns g c =
       same_values =
           same_values K n (vec_items c.args.table) c.args.tolerance c.args.limit (solution_of c.solved.result)
           (had_room c.solved.result) came;
-      limits =
-          limits_of (settled_with K kept f c.args.tolerance) (solution K true n (vec_items c.args.table) c.args.tolerance) c.args.limit
-          (had_room c.solved.result) (solution_of c.solved.result)
-          (λ m. settled_with_q K f c.args.tolerance m kept held
-          ∙ solves K n (vec_items c.args.table) c.args.tolerance m true f told.0 told.1) came c.solved.ensures.limits;
+      limits = limits K true n (vec_items c.args.table) c.args.tolerance c.args.limit;
       lower_triangle = lower_triangle K n (vec_items c.args.table) c.args.tolerance c.args.limit;
     }

@@ -1,8 +1,7 @@
-use Rattle.std.proofs.Common.{false, [], vec_items, ap, ◌∙◌}
+use Rattle.std.proofs.Common.{false, vec_items, ap, ◌∙◌}
 use Rattle.tridiagonal.specs.Householder.{kind}
 use Rattle.decomposition.specs.Forms.{form_of}
-use Rattle.decomposition.specs.Solutions.{given_room, had_room, settled_with, solution, solution_of}
-use Rattle.decomposition.proofs.Limits.{limits_of}
+use Rattle.decomposition.specs.Solutions.{given_room, had_room}
 use Rattle.decomposition.proofs.Settling.{settled_with_none}
 use Rattle.decomposition.proofs.Whole.{solves, no_form}
 use Rattle.decomposition.proofs.solve.symmetric_eigenvalues.Goals as goal
@@ -16,18 +15,6 @@ returns-clause-solution g c =
     ∙ ap (given_room (had_room c.solved.result))
     (settled_with_none K f c.args.tolerance c.args.limit c.new-keeper.result.width
     ∙ solves K c.args.n (vec_items c.args.table) c.args.tolerance c.args.limit false f told.0 told.1)
-
-pub returns-clause-limits : goal.returns-clause-limits
-returns-clause-limits g c =
-    let K = kind g.T.Arithmetic.ops g.T.Real.Arithmetic.ops g.T.Real.RealScalar.real in
-    let f = form_of c.in_ok-form.form in
-    let told = c.in_ok-form.ensures.form in
-    let w = c.new-keeper.result.width in
-    limits_of (settled_with K (record { width = w; rows = [] }) f c.args.tolerance)
-    (solution K false c.args.n (vec_items c.args.table) c.args.tolerance) c.args.limit (had_room c.solved.result)
-    (solution_of c.solved.result)
-    (λ m. settled_with_none K f c.args.tolerance m w ∙ solves K c.args.n (vec_items c.args.table) c.args.tolerance m false f told.0 told.1)
-    (returns-clause-solution g c) c.solved.ensures.limits
 
 pub returns-clause-side : goal.returns-clause-side
 returns-clause-side g c =
