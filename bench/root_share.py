@@ -63,8 +63,8 @@ def main():
     program, kind, side, count = sys.argv[1:]
     loops = sorted(digit_loops(program))
     with tempfile.NamedTemporaryFile() as data:
-        subprocess.run(["perf", "record", "-q", "-F", "8000", "-e", "cpu-clock:u", "-o", data.name, program, kind, "solve", "library", side, count],
-                       check=True)
+        record = ["perf", "record", "-q", "-F", "8000", "-e", "cpu-clock:u", "-o", data.name]
+        subprocess.run([*record, program, kind, "solve", "library", side, count], check=True)
         told = output("perf", "script", "-i", data.name, "-F", "ip", "--show-mmap-events")
     start, offset = mapped(told, program)
     shift = offset - start + code_offset(program)
