@@ -198,7 +198,7 @@ def solved(draw):
     whole = [[draw.uniform(-1, 1) for c in range(r + 1)] for r in range(32)]
     yield table(0, whole)
     yield table(1, [[complex(x, -x * x) for x in row] for row in whole], ask=VALUES)
-    # settled in one pass less than the limit that holds where none is typed, and in just as many, which is one too many
+    # the limit where none is typed, 1000: settled in 999 passes, and refused for needing 1000
     yield table(0, [[-1.0], [-2.0, 3.0], [0.5, -2.0, 1.5]], tolerance(0.0))
     yield table(0, [[3.0], [0.0, -2.0], [1.5, 0.0, 7.0]], tolerance(0.0))
 

@@ -29,7 +29,7 @@ EXCHANGES = [
     (r"\bcolumn\b", ("row",)), (r"\.re\b", (".im",)), (r"\.im\b", (".re",)), (r"\bvalues\b", ("offs",)), (r"\bReal\b", ("Outline",)),
     (r"\bForward\b", ("Back",)), (r"\bBack\b", ("Forward",)), (r"Fault::Side\b", ("Fault::Length",)), (r"Fault::Length\b", ("Fault::Side",)),
     (r"Fault::Tolerance\b", ("Fault::Limit",)), (r"Fault::Limit\b", ("Fault::Tolerance",)), (r"Fault::Width\b", ("Fault::Side",)),
-    (r"Fault::Column\b", ("Fault::Width",)), (r"SheetFault::Order\b", ("SheetFault::Unknown",)), (r"\bValues\b", ("Vectors",)), (r"\bVectors\b", ("Values",)),
+    (r"Fault::Column\b", ("Fault::Width",)), (r"SheetFault::Order\b", ("SheetFault::Operand",)), (r"\bValues\b", ("Vectors",)), (r"\bVectors\b", ("Values",)),
     (r"\.is_ok\(\)", (".is_err()",)), (r"\.is_some\(\)", (".is_none()",)), (r"\.is_finite\(\)", (".is_zero()",)), (r"\.is_zero\(\)", (".is_finite()",)),
 ]
 NOT_CODE = ("//", "#[", "#![", "use ", "pub use", "pub(crate) use", "mod ", "pub mod", "fn ", "pub fn", "pub(crate) fn", "final fn", "impl", "struct ",
