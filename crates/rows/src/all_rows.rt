@@ -12,7 +12,8 @@ use scalar::{Arithmetic, Scalar};
 
 // The counts stand beside the slice: `new` is handed all three, and nothing here allocates.
 // The slice lent holds, once the keeper is gone, what `cells` held last: it is the same one, by `same_slice` of `new` and of `turn`, and
-// through a bound, as in a run, by the trait's `lent`.
+// where the keeper's type is a parameter, as in a run, by the trait's `lent`. What that is, the rows tell of a keeper that fits. One made
+// against `check` no turn through `AllRows` writes (`untouched`), but where its type is a parameter, only width 0 and no rows are told.
 #[derive(Drop)]
 pub struct AllRows<'a, T> {
     width: usize,

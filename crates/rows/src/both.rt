@@ -1,5 +1,5 @@
 // A keeper of any two keepers: the first's rows, then the second's.
-ghost use Rattle.std.specs.Prelude.{◌≡◌, ◌+◌, ◌++◌, length};
+ghost use Rattle.std.specs.Prelude.{◌≡◌, ◌+◌, ◌++◌, false, cond, length};
 ghost use Rattle.rows.specs.Keepers.{answered, kept_turned, turn_answer};
 ghost use Rattle.rows.specs.Makes.{both, both_check, both_fit, either_cell};
 ghost use Rattle.rows.specs.Sounds.{both_sound};
@@ -136,10 +136,23 @@ impl<T: Scalar, A: Keeper<T>, B: Keeper<T>> Keeper<T> for Both<A, B> {
         self.read_either::<T>(row, column)
     }
 
-    fn turn(&mut self, turn: &Turn<T::Real>) -> Result<(), Fault> {
-        if !fit(&self.first, &self.second) {
-            return Err(Fault::Column);
+    fn turn(&mut self, turn: &Turn<T::Real>) -> Result<(), Fault>
+        ensures answer { answered result ≡
+            turn_answer (both (A.kept self.old.first) (B.kept self.old.second)) turn.now.column }
+        ensures rows { both (A.kept self.new.first) (B.kept self.new.second) ≡
+            kept_turned T.ops turn.now (both (A.kept self.old.first) (B.kept self.old.second)) }
+        ensures first { A.kept self.new.first ≡ cond (both_fit (A.kept self.old.first) (B.kept self.old.second))
+            (kept_turned T.ops turn.now (A.kept self.old.first)) (A.kept self.old.first) }
+        ensures second { B.kept self.new.second ≡ cond (both_fit (A.kept self.old.first) (B.kept self.old.second))
+            (kept_turned T.ops turn.now (B.kept self.old.second)) (B.kept self.old.second) }
+        ensures untouched { both_fit (A.kept self.old.first) (B.kept self.old.second) ≡ false → self.new ≡ self.old }
+        ensures first_lent { A.lent self.new.first ≡ A.lent self.old.first }
+        ensures second_lent { B.lent self.new.second ≡ B.lent self.old.second }
+    {
+        if fit(&self.first, &self.second) {
+            self.turn_each::<T>(turn)
+        } else {
+            Err(Fault::Column)
         }
-        self.turn_each::<T>(turn)
     }
 }

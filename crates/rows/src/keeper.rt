@@ -9,7 +9,7 @@ use scalar::Scalar;
 pub trait Keeper<T: Scalar> {
     ghost kept: { Self → Kept T };
 
-    // The slices lent to it, by their names. None is exchanged for another: who lent one knows by this what it holds afterwards.
+    // The slices lent to it, by their names. None is exchanged for another: what the keeper's holds last, the one lent holds afterwards.
     ghost lent: { Self → List ℕ };
 
     ghost sound: { (k : Self) → Sound (kept k) };
