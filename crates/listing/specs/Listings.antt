@@ -114,8 +114,7 @@ abbrev pub made_of : {A : Type 0} → Result (Vec Line A) SheetFault → Made
 made_of (Ok v) = lists (vec_items v)
 made_of (Err fault) = fails (why fault)
 
--- Whether there was memory: only want of it says no. It tests the answer and not the memory, so that want of memory is open on every
--- input.
+-- Whether the answer is other than want of memory. It tests the answer and not the memory: want of memory is open on every table.
 abbrev pub had_room : Made → Bool
 had_room (lists ls) = true
 had_room (fails w) = room_for w

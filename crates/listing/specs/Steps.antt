@@ -1,9 +1,10 @@
 -- A listing table by table. Definitions only.
-use Rattle.std.specs.Prelude.{◌≡◌, ℕ, ◌-◌, ◌<◌, List, [], ◌++◌, length, Some, None, Ok, Err, Option, Result, vec_items}
+use Rattle.std.specs.Prelude.{◌≡◌, ℕ, ◌-◌, ◌<◌, false, List, [], ◌++◌, drop, length, Some, None, Ok, Err, Option, Result, vec_items}
 use Rattle.sheet.specs.declared.sheet_fault.Refusal.{Refusal}
+use Rattle.sheet.specs.Desk.{idle}
 use Rattle.sheet.specs.Faults.{Why, rule, memory, why}
 use Rattle.sheet.specs.Laws.{from}
-use Rattle.sheet.specs.Sheets.{stop}
+use Rattle.sheet.specs.Sheets.{broken, stop, table_from}
 use Rattle.listing.specs.declared.line.Line.{Line}
 use Rattle.listing.specs.declared.step.Step.{Step}
 use Rattle.listing.specs.Listings.{Listed, Made, lists, fails, solved_read}
@@ -30,15 +31,19 @@ abbrev pub ends : Option Refusal → Listed
 ends None = record { lines = []; refusal = None }
 ends (Some r) = record { lines = []; refusal = Some (stop (why r.fault) r.place) }
 
--- a refusal is the last of the listing, want of memory none
+-- The sheet opens a table of a lawful kind and side at a place where none is open: without memory it would go no further.
+abbrev pub OpensAt : List ℕ → ℕ → Type 0
+OpensAt s p = table_from false 0 p idle (drop p s) ≡ broken memory p
+
+-- A refusal is the last of the listing. Want of memory is none, and is told only where a table is opened.
 abbrev pub Refuses : List ℕ → ℕ → Refusal → Why → Type 0
 Refuses s p r (rule known) = lines_from s p ≡ ends (Some r)
-Refuses s p r memory = Unit {0}
+Refuses s p r memory = OpensAt s p
 
 abbrev pub Goes : List ℕ → ℕ → Option Step → Type 0
 Goes s p None = lines_from s p ≡ ends None
 Goes s p (Some x) =
-    (lines_from s p ≡ before (vec_items x.lines) (lines_from s x.after)) × (length s - x.after < length s - p)
+    (lines_from s p ≡ before (vec_items x.lines) (lines_from s x.after)) × (length s - x.after < length s - p) × OpensAt s p
 
 -- One step of a listing from a place on: it ends, the lines of a table and what is listed from the place after it, with less
 -- left to read, or a refusal.

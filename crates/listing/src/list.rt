@@ -1,11 +1,11 @@
 // Listing a whole sheet.
-ghost use Rattle.std.specs.Prelude.{◌≡◌, IfOk, IsOkUnless};
+ghost use Rattle.std.specs.Prelude.{◌≡◌, ◌<◌, IfOk, IsOkAnd, IsOkUnless, OnErr, length};
 ghost use Rattle.sheet.specs.Desk.{table_of};
 ghost use Rattle.sheet.specs.Laws.{Final, Gathers, Joins};
 ghost use Rattle.sheet.specs.declared.sheet_fault.SheetFault.TheVariants.{Memory};
 ghost use Rattle.listing.specs.Laws.{AddsRows, AnyLimit, ListsBehind, Reduces, TablesBehind, TablesUnlisted, Unlisted};
-ghost use Rattle.listing.specs.Listings.{lines as listed_lines, listed, listing_of, made_of_table};
-ghost use Rattle.listing.specs.Steps.{Makes, Steps};
+ghost use Rattle.listing.specs.Listings.{lines as listed_lines, listed, listing_of, longest, made_of_table, too_long};
+ghost use Rattle.listing.specs.Steps.{Makes, OpensAt, Steps};
 
 use crate::listing::Listing;
 use crate::solve::table_lines;
@@ -42,6 +42,7 @@ fn next_lines(heap: Global, sheet: &[u8], place: usize) -> Result<Option<Step>, 
 fn list_tables(heap: Global, sheet: &[u8]) -> Result<Listing, SheetFault>
     ensures listing { IfOk result (λ l. listing_of l ≡ listed_lines sheet.now) }
     ensures memory { IsOkUnless result Memory }
+    ensures opens { OnErr result (OpensAt sheet.now 0) }
 {
     let mut lines = Vec::new(heap);
     // No iterator: it would be this loop, with heap, sheet and place as its fields; `next_table` reads on from any place.
@@ -76,12 +77,17 @@ fn list_tables(heap: Global, sheet: &[u8]) -> Result<Listing, SheetFault>
 pub fn list_sheet(heap: Global, sheet: &[u8]) -> Result<Listing, SheetFault>
     ensures listing { IfOk result (λ l. listing_of l ≡ listed sheet.now) }
     ensures memory { IsOkUnless result Memory }
+    // it does so only where the sheet opens a table of a lawful kind and side; the first command of such a sheet opens one
+    ensures opens { OnErr result (OpensAt sheet.now 0) }
+    // a sheet that is too long is refused whether there is memory or not
+    ensures too_long { longest < length sheet.now → IsOkAnd result (λ l. listing_of l ≡ too_long) }
     // the largest size gathered for each closed table is that of the whole table, and that by which its reduction divides
     ensures gathers { Gathers sheet.now }
     ensures reduces { Reduces sheet.now }
     // asked for vectors, a table lists what it does asked for values, and then a line for each entry of its vectors
     ensures adds_rows { AddsRows sheet.now }
-    // a table that is solved in so many passes lists the same at each larger limit, and at each from 1 to them is refused 7
+    // a table that is solved in so many passes lists the same at each larger limit that a table can have, and at each from 1 to them is
+    // refused 7
     ensures any_limit { AnyLimit sheet.now }
     // what follows a refused command is not read, nor listed, be it refused by the reader or as its table is solved
     ensures unread { Final sheet.now }

@@ -17,7 +17,7 @@ pub fn next_table(heap: Global, sheet: &[u8], place: usize) -> Result<Option<Rea
     ensures reading { reading_of result ≡ table_from (had_room (reading_of result)) 0 place idle (drop place sheet.now) }
     // the largest size gathered for the table is that of the whole table
     ensures gathered { gathered_reading (reading_of result) }
-    // what follows is of the definitions, not of this answer: `reading` ties it to `table_from`, and `one_by_one` that to whole runs
+    // What follows is of the definitions, not of this answer: `reading` ties it to `table_from`, and `one_by_one` that to whole runs.
     // a whole sheet closes its tables one by one
     ensures one_by_one { OneByOne sheet.now place }
     // the largest size gathered for each table that a whole sheet closes is that of the whole table
