@@ -11,8 +11,8 @@ use Rattle.decomposition.specs.declared.failure.Failure.{Failure}
 use Rattle.decomposition.specs.declared.failure.Failure.TheVariants.{Solver, Memory}
 use Rattle.decomposition.specs.Solutions.{Form, Solution, failed, ended, settled_form, unless_failed, task_of, table_refusal, reduced_form, solution, solution_of, had_room, given_room, SameButVectors}
 use Rattle.decomposition.specs.Forms.{Reduces}
-use Rattle.decomposition.proofs.Limits.{limits}
-use Rattle.decomposition.proofs.Lowers.{lower_triangle}
+use Rattle.decomposition.proofs.Limits.{any_limit}
+use Rattle.decomposition.proofs.Lowers.{only_lower}
 use Rattle.decomposition.proofs.Reducing.{side_refusal, length_refusal}
 
 -- What is handed on where there is no form. Of a side or a length that is refused it is that refusal.
@@ -74,4 +74,4 @@ module _ {C R : Type 0} (K : Kind C R) (n : ℕ) (t : List C) (tolerance : R) (l
       subst (λ (x : Solution C R). SameButVectors x (given_room room (solution K false n t tolerance limit))) (sym is) (same_room room)
 
 -- what both calls promise where there is no form or no memory, and what does not depend on that
-pub ruleset solution_laws = (unformed, unformed_side, unformed_length, same_values, limits, lower_triangle)
+pub ruleset solution_laws = (unformed, unformed_side, unformed_length, same_values, any_limit, only_lower)

@@ -5,7 +5,7 @@ ghost use Rattle.rows.specs.Makes.{all_rows};
 ghost use Rattle.tridiagonal.specs.Checks.{side_refused};
 ghost use Rattle.tridiagonal.specs.Householder.{kind};
 ghost use Rattle.decomposition.specs.Forms.{Counts, Fits, form_of};
-ghost use Rattle.decomposition.specs.Laws.{Limits, LowerTriangle};
+ghost use Rattle.decomposition.specs.Laws.{AnyLimit, OnlyLower};
 ghost use Rattle.decomposition.specs.Solutions.{SameButVectors, failed, given_room, had_room, settled_with, solution, solution_of};
 
 use crate::buffers::{columns_of, zeros};
@@ -83,10 +83,10 @@ pub fn symmetric_eigenvalues<T: Scalar>(
     ensures refused_length { side_refused n ≡ false → length table.items ≢ n * n → solution_of result ≡ failed (refused 2 []) }
     ensures counts { IfOk result (Counts n 0) }
     // laws of the definition that `solution` ties the answer to
-    ensures limits { Limits
+    ensures any_limit { AnyLimit
         (solution (kind T.ops T.Real.ops T.Real.real) false n table.items tolerance limit)
         (solution (kind T.ops T.Real.ops T.Real.real) false n table.items tolerance) }
-    ensures lower_triangle { LowerTriangle (kind T.ops T.Real.ops T.Real.real) n table.items tolerance limit }
+    ensures only_lower { OnlyLower (kind T.ops T.Real.ops T.Real.real) false n table.items tolerance limit }
 {
     let form = reduced(heap, n, table)?;
     let mut keeper = NoRows::new(n);
@@ -112,10 +112,10 @@ pub fn symmetric_eigen<T: Scalar>(
     ensures same_values { SameButVectors (solution_of result) (given_room (had_room result)
         (solution (kind T.ops T.Real.ops T.Real.real) false n table.items tolerance limit)) }
     // laws of the definition that `solution` ties the answer to
-    ensures limits { Limits
+    ensures any_limit { AnyLimit
         (solution (kind T.ops T.Real.ops T.Real.real) true n table.items tolerance limit)
         (solution (kind T.ops T.Real.ops T.Real.real) true n table.items tolerance) }
-    ensures lower_triangle { LowerTriangle (kind T.ops T.Real.ops T.Real.real) n table.items tolerance limit }
+    ensures only_lower { OnlyLower (kind T.ops T.Real.ops T.Real.real) true n table.items tolerance limit }
 {
     let form = reduced(heap, n, table)?;
     let mut q = zeros(heap, n * n)?;

@@ -6,8 +6,8 @@ use Rattle.rows.specs.Makes.{all_rows}
 use Rattle.tridiagonal.specs.Householder.{kind}
 use Rattle.decomposition.specs.Forms.{Counts, form_of}
 use Rattle.decomposition.specs.Solutions.{Form, given_room, had_room, solution_of}
-use Rattle.decomposition.proofs.Limits.{limits}
-use Rattle.decomposition.proofs.Lowers.{lower_triangle}
+use Rattle.decomposition.proofs.Limits.{any_limit}
+use Rattle.decomposition.proofs.Lowers.{only_lower}
 use Rattle.decomposition.proofs.Reducing.{side_refusal, table_whole}
 use Rattle.decomposition.proofs.Settling.{assembled, held_of_q, rows_held, settled_with_q, count_of_q}
 use Rattle.decomposition.proofs.Whole.{solves, same_values}
@@ -48,8 +48,8 @@ returns g c =
       same_values =
           same_values K n (vec_items c.args.table) c.args.tolerance c.args.limit (solution_of c.solved.result)
           (had_room c.solved.result) came;
-      limits = limits K true n (vec_items c.args.table) c.args.tolerance c.args.limit;
-      lower_triangle = lower_triangle K n (vec_items c.args.table) c.args.tolerance c.args.limit;
+      any_limit = any_limit K true n (vec_items c.args.table) c.args.tolerance c.args.limit;
+      only_lower = only_lower K true n (vec_items c.args.table) c.args.tolerance c.args.limit;
     }
 
 pub returns-in_err-q-clause-refused_length : goal.returns-in_err-q-clause-refused_length
