@@ -26,7 +26,7 @@ pub data Case : Type 0 where
   refuses : (side : ℕ) (table : List Float) (tolerance : Float) (limit : ℕ) (why : Refusal) → Case
   -- it settles with these values in so many passes
   settles : (side : ℕ) (table : List Float) (tolerance : Float) (limit : ℕ) (values : List Float) (passes : ℕ) → Case
-  -- and with these vectors, column by column
+  -- and, where they are asked for, with these vectors, column by column
   settles_with : (side : ℕ) (table : List Float) (tolerance : Float) (limit : ℕ) (values : List Float) (passes : ℕ)
       (vectors : List Float) → Case
   -- the root of a number
@@ -39,7 +39,8 @@ abbrev pub Holds : Case → Type 0
 Holds (refuses n t tolerance limit why) = (asked : Bool) → solution r64 asked n t tolerance limit ≡ failed why
 Holds (settles n t tolerance limit values passes) = (asked : Bool) → Settles (solution r64 asked n t tolerance limit) passes values
 Holds (settles_with n t tolerance limit values passes vectors) =
-    SettlesWith (solution r64 true n t tolerance limit) passes values vectors
+    Settles (solution r64 false n t tolerance limit) passes values
+    × SettlesWith (solution r64 true n t tolerance limit) passes values vectors
 Holds (roots v r) = root_of binary64 v ≡ r
 Holds (turns t row after) = turned (float_ops binary64) t row ≡ after
 

@@ -9,11 +9,11 @@ use Rattle.tridiagonal.specs.Householder.{Kind}
 use Rattle.tridiagonal.specs.Outcome.{Reduced}
 use Rattle.tridiagonal.specs.Reduce.{largest_size, reduced_table, values_of, offs_of, signs_of}
 use Rattle.tridiagonal.specs.Runs.{Run as Reducing, Buffers, buffers, call, ReduceRun, AlikeBelow, SameForm}
-use Rattle.tridiagonal.proofs.Law.{accepted_run, only_lower}
+use Rattle.tridiagonal.proofs.Law.{accepted_run, only_lower as same_lower}
 use Rattle.eigen.specs.Runs.{Run}
 use Rattle.eigen.specs.Settles.{Task, settle_of}
 use Rattle.decomposition.specs.Solutions.{Form, ended_with, settled_form, task_of, rows_of_q, vectors_of, by_columns, table_refusal, reduced_form, unless_failed, solution}
-use Rattle.decomposition.specs.Laws.{LowerTriangle}
+use Rattle.decomposition.specs.Laws.{OnlyLower}
 
 module _ {C R : Type 0} (K : Kind C R) (n : ℕ) where
   -- buffers as long as the side asks for
@@ -40,7 +40,7 @@ module _ {C R : Type 0} (K : Kind C R) (n : ℕ) where
   same_form : (t u : List C) → table_refusal K n t ≡ None → table_refusal K n u ≡ None → AlikeBelow n t u →
       largest_size K t ≡ largest_size K u → SameForm K n (left_for t) (left_for u)
   same_form t u none none' below size =
-      only_lower K n (given_for t) (Reduced n (largest_size K t)) (left_for t) (runs t none) (run_for u) n (largest_size K t)
+      same_lower K n (given_for t) (Reduced n (largest_size K t)) (left_for t) (runs t none) (run_for u) n (largest_size K t)
       (runs u none') refl (ap (Reduced n) (sym size)) below
 
   ended_alike : (v w : List C) (f g : Form C R) (r s : Run R) (a b : Answer ℕ) → v ≡ w → f.largest ≡ g.largest → r ≡ s → a ≡ b →
@@ -72,9 +72,10 @@ module _ {C R : Type 0} (K : Kind C R) (n : ℕ) where
       ended_alike (cond asked (vectors_of K f r.turns) []) (cond asked (vectors_of K g s.turns) []) f g r s r.answer s.answer
       (ap (λ (x : List C). cond asked x []) vectors) size run (ap (λ (x : Run R). x.answer) run)
 
-pub lower_triangle : {C R : Type 0} (K : Kind C R) (n : ℕ) (t : List C) (tolerance : R) (limit : ℕ) → LowerTriangle K n t tolerance limit
-unfolding LowerTriangle solution
-lower_triangle K n t tolerance limit asked u none none' below size =
+pub only_lower : {C R : Type 0} (K : Kind C R) (asked : Bool) (n : ℕ) (t : List C) (tolerance : R) (limit : ℕ) →
+    OnlyLower K asked n t tolerance limit
+unfolding OnlyLower solution
+only_lower K asked n t tolerance limit u none none' below size =
     ap (λ o. unless_failed K o (settled_form K asked (reduced_form K n t) tolerance limit)) none
     ∙ settled_alike K n asked t u tolerance limit size (same_form K n t u none none' below size)
     ∙ sym (ap (λ o. unless_failed K o (settled_form K asked (reduced_form K n u) tolerance limit)) none')

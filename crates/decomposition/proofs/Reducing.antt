@@ -1,5 +1,6 @@
 -- What is known of a table that is reduced in buffers made for its side.
-use Rattle.std.proofs.Common.{◌≡◌, ℕ, ◌-◌, ◌*◌, ◌<◌, ◌≤◌, true, false, ◌⊎◌, List, [], length, Some, None, Option, sym, refl, ap, ◌∙◌, ⊎_elim, arith}
+use Rattle.std.proofs.Common.{◌≡◌, ℕ, ◌-◌, ◌*◌, ◌<◌, ◌≤◌, ◌≢◌, true, false, ◌⊎◌, List, [], length, Some, None, Option, sym, refl, ap, ◌∙◌, ⊎_elim, arith}
+use Rattle.std.proofs.lemmas.Bool.{ne_eqb}
 use Rattle.std.proofs.lemmas.Bool.Decides.{nat_tests}
 use Rattle.fault.specs.Refusals.{Refusal, refused}
 use Rattle.tridiagonal.specs.Accepted.{accepted, unless_none}
@@ -26,8 +27,16 @@ module _ {C R : Type 0} (K : Kind C R) (n : ℕ) (t : List C) where
       (⊎_elim (λ (z : n ≡ 0). grind (arith, nat_tests, z))
       (λ (z : (n ≡ 0 → ⊥) × (512 < n)). grind (arith, nat_tests, z.1)) way)
 
+  pub length_refusal : side_refused n ≡ false → length t ≢ n * n → table_refusal K n t ≡ Some (refused 2 [])
+  unfolding reduce_refusal
+  length_refusal side wrong = rw (side, ne_eqb (length t) (n * n) wrong)
+
+  -- a lawful side, and a table of another length
+  pub refused_length : 0 < n → n ≤ 512 → length t ≢ n * n → table_refusal K n t ≡ Some (refused 2 [])
+  refused_length some few wrong = length_refusal (lawful_side n some few) wrong
+
   -- a table that is not refused is whole
-  table_whole : table_refusal K n t ≡ None → length t ≡ n * n
+  pub table_whole : table_refusal K n t ≡ None → length t ≡ n * n
   table_whole none = (accepted K n t n (n - 1) (n - 1) (n - 1) none).as_table
 
 pub reduced : {R : Type 0} (o : Option Refusal) (a n : ℕ) (b l : R) → Reduced a b ≡ reduce_outcome o n l → (o ≡ None) × ((a ≡ n) × (b ≡ l))

@@ -1,5 +1,6 @@
 -- A whole solution, from its form.
-use Rattle.std.proofs.Common.{◌≡◌, ℕ, Bool, true, false, List, [], Some, None, Option, Err, sym, refl, ap, ◌∙◌, subst}
+use Rattle.std.proofs.Common.{◌≡◌, ℕ, ◌*◌, ◌≢◌, Bool, true, false, List, [], length, Some, None, Option, Err, sym, refl, ap, ◌∙◌, subst}
+use Rattle.std.proofs.lemmas.Bool.{true≢false}
 use Rattle.fault.specs.Refusals.{Refusal, refusal, refused}
 use Rattle.rows.specs.Keepers.{Answer, given, denied}
 use Rattle.tridiagonal.specs.Checks.{side_refused}
@@ -10,25 +11,27 @@ use Rattle.decomposition.specs.declared.failure.Failure.{Failure}
 use Rattle.decomposition.specs.declared.failure.Failure.TheVariants.{Solver, Memory}
 use Rattle.decomposition.specs.Solutions.{Form, Solution, failed, ended, settled_form, unless_failed, task_of, table_refusal, reduced_form, solution, solution_of, had_room, given_room, SameButVectors}
 use Rattle.decomposition.specs.Forms.{Reduces}
-use Rattle.decomposition.proofs.Limits.{limits}
-use Rattle.decomposition.proofs.Lowers.{lower_triangle}
-use Rattle.decomposition.proofs.Reducing.{side_refusal}
+use Rattle.decomposition.proofs.Limits.{any_limit}
+use Rattle.decomposition.proofs.Lowers.{only_lower}
+use Rattle.decomposition.proofs.Reducing.{side_refusal, length_refusal}
 
--- what is known of a side that is refused
-module _ {C R : Type 0} (K : Kind C R) (n : ℕ) (t : List C) (side : side_refused n ≡ true) where
-  -- what is handed on where there is no form is the side's refusal
-  pub unformed_side : (e : Failure) → Reduces K n t (Err e) → ◌≡◌ {A = Solution C R} (solution_of (Err e)) (failed (refused 1 []))
-  unformed_side (Solver fault) h =
-      let told : ◌≡◌ {A = Option Refusal} (Some (refusal fault)) (Some (refused 1 [])) = sym h ∙ side_refusal K n t side in
-      let is : refusal fault ≡ refused 1 [] = cc in
-      ap failed is
-  unformed_side Memory h = absurd (cc)
+-- What is handed on where there is no form. Of a side or a length that is refused it is that refusal.
+module _ {C R : Type 0} (K : Kind C R) (n : ℕ) (t : List C) where
+  unformed_as : (why : Refusal) → table_refusal K n t ≡ Some why → ((side_refused n ≡ false) × (length t ≡ n * n) → ⊥) →
+      (e : Failure) → Reduces K n t (Err e) → ◌≡◌ {A = Solution C R} (solution_of (Err e)) (failed why)
+  unformed_as why is fits (Solver fault) h =
+      let told : ◌≡◌ {A = Option Refusal} (Some (refusal fault)) (Some why) = sym h ∙ is in
+      let same : refusal fault ≡ why = cc in
+      ap failed same
+  unformed_as why is fits Memory h = absurd (fits h)
 
-  -- there is no form
-  pub no_form : table_refusal K n t ≡ None → ⊥
-  no_form none =
-      let no : ◌≡◌ {A = Option Refusal} None (Some (refused 1 [])) = sym none ∙ side_refusal K n t side in
-      absurd (cc)
+  pub unformed_side : side_refused n ≡ true → (e : Failure) → Reduces K n t (Err e) →
+      ◌≡◌ {A = Solution C R} (solution_of (Err e)) (failed (refused 1 []))
+  unformed_side side = unformed_as (refused 1 []) (side_refusal K n t side) (λ h. absurd (true≢false (sym side ∙ h.0)))
+
+  pub unformed_length : side_refused n ≡ false → length t ≢ n * n → (e : Failure) → Reduces K n t (Err e) →
+      ◌≡◌ {A = Solution C R} (solution_of (Err e)) (failed (refused 2 []))
+  unformed_length side wrong = unformed_as (refused 2 []) (length_refusal K n t side wrong) (λ h. wrong h.1)
 
 module _ {C R : Type 0} (K : Kind C R) (n : ℕ) (t : List C) (tolerance : R) (limit : ℕ) where
   pub solves : (asked : Bool) (f : Form C R) → table_refusal K n t ≡ None → f ≡ reduced_form K n t →
@@ -71,4 +74,4 @@ module _ {C R : Type 0} (K : Kind C R) (n : ℕ) (t : List C) (tolerance : R) (l
       subst (λ (x : Solution C R). SameButVectors x (given_room room (solution K false n t tolerance limit))) (sym is) (same_room room)
 
 -- what both calls promise where there is no form or no memory, and what does not depend on that
-pub ruleset solution_laws = (unformed, unformed_side, same_values, limits, lower_triangle)
+pub ruleset solution_laws = (unformed, unformed_side, unformed_length, same_values, any_limit, only_lower)

@@ -29,11 +29,11 @@ module _ {C R : Type 0} where
     pub offs : length f.offs ≡ f.side - 1
     pub signs : length f.signs ≡ f.side - 1
 
-  -- a form that fits, a refusal, or want of memory, for which no side that is refused can ask
+  -- a form that fits, a refusal, or want of memory, which is told of a side and a length that fit alone
   abbrev pub Reduces : Kind C R → ℕ → List C → Result (Held C R) Failure → Type 0
   Reduces K n t (Ok h) = (table_refusal K n t ≡ None) × (form_of h ≡ reduced_form K n t) × Fits (form_of h)
   Reduces K n t (Err (Solver fault)) = table_refusal K n t ≡ Some (refusal fault)
-  Reduces K n t (Err Memory) = side_refused n ≡ false
+  Reduces K n t (Err Memory) = (side_refused n ≡ false) × (length t ≡ n * n)
 
   -- how many values and how many entries of vectors are given
   pub record Counts (m k : ℕ) (s : Solved C R) : Type 0 where

@@ -1,11 +1,11 @@
 // Reducing, assembling and settling one table.
-ghost use Rattle.std.specs.Prelude.{◌≡◌, ◌*◌, [], true, false, length, IfOk};
+ghost use Rattle.std.specs.Prelude.{◌≡◌, ◌*◌, [], true, false, length, IfOk, ◌≢◌};
 ghost use Rattle.fault.specs.Refusals.{refused};
 ghost use Rattle.rows.specs.Makes.{all_rows};
 ghost use Rattle.tridiagonal.specs.Checks.{side_refused};
 ghost use Rattle.tridiagonal.specs.Householder.{kind};
 ghost use Rattle.decomposition.specs.Forms.{Counts, Fits, form_of};
-ghost use Rattle.decomposition.specs.Laws.{Limits, LowerTriangle};
+ghost use Rattle.decomposition.specs.Laws.{AnyLimit, OnlyLower};
 ghost use Rattle.decomposition.specs.Solutions.{SameButVectors, failed, given_room, had_room, settled_with, solution, solution_of};
 
 use crate::buffers::{columns_of, zeros};
@@ -78,14 +78,15 @@ pub fn symmetric_eigenvalues<T: Scalar>(
 ) -> Result<Solved<T>, Failure>
     ensures solution { solution_of result ≡ given_room (had_room result)
         (solution (kind T.ops T.Real.ops T.Real.real) false n table.items tolerance limit) }
-    // of a side that is refused no want of memory is told
-    ensures side { side_refused n ≡ true → solution_of result ≡ failed (refused 1 []) }
+    // where the side or the length is refused no want of memory is told
+    ensures refused_side { side_refused n ≡ true → solution_of result ≡ failed (refused 1 []) }
+    ensures refused_length { side_refused n ≡ false → length table.items ≢ n * n → solution_of result ≡ failed (refused 2 []) }
     ensures counts { IfOk result (Counts n 0) }
     // laws of the definition that `solution` ties the answer to
-    ensures limits { Limits
+    ensures any_limit { AnyLimit
         (solution (kind T.ops T.Real.ops T.Real.real) false n table.items tolerance limit)
         (solution (kind T.ops T.Real.ops T.Real.real) false n table.items tolerance) }
-    ensures lower_triangle { LowerTriangle (kind T.ops T.Real.ops T.Real.real) n table.items tolerance limit }
+    ensures only_lower { OnlyLower (kind T.ops T.Real.ops T.Real.real) false n table.items tolerance limit }
 {
     let form = reduced(heap, n, table)?;
     let mut keeper = NoRows::new(n);
@@ -103,17 +104,18 @@ pub fn symmetric_eigen<T: Scalar>(
 ) -> Result<Solved<T>, Failure>
     ensures solution { solution_of result ≡ given_room (had_room result)
         (solution (kind T.ops T.Real.ops T.Real.real) true n table.items tolerance limit) }
-    // of a side that is refused no want of memory is told
-    ensures side { side_refused n ≡ true → solution_of result ≡ failed (refused 1 []) }
+    // where the side or the length is refused no want of memory is told
+    ensures refused_side { side_refused n ≡ true → solution_of result ≡ failed (refused 1 []) }
+    ensures refused_length { side_refused n ≡ false → length table.items ≢ n * n → solution_of result ≡ failed (refused 2 []) }
     ensures counts { IfOk result (Counts n (n * n)) }
     // the largest size, the passes, the values and the refusals are those of the values alone
     ensures same_values { SameButVectors (solution_of result) (given_room (had_room result)
         (solution (kind T.ops T.Real.ops T.Real.real) false n table.items tolerance limit)) }
     // laws of the definition that `solution` ties the answer to
-    ensures limits { Limits
+    ensures any_limit { AnyLimit
         (solution (kind T.ops T.Real.ops T.Real.real) true n table.items tolerance limit)
         (solution (kind T.ops T.Real.ops T.Real.real) true n table.items tolerance) }
-    ensures lower_triangle { LowerTriangle (kind T.ops T.Real.ops T.Real.real) n table.items tolerance limit }
+    ensures only_lower { OnlyLower (kind T.ops T.Real.ops T.Real.real) true n table.items tolerance limit }
 {
     let form = reduced(heap, n, table)?;
     let mut q = zeros(heap, n * n)?;

@@ -11,8 +11,8 @@ use std::alloc::Global;
 use tridiagonal::reduce;
 
 // The table reduced, in buffers that are made for its side.
-// `reduce` looks at the side too, but memory for a side that it refuses must not be asked for.
-#[tactic(auto, using(crate::proofs::Reducing::refused_side, crate::proofs::Reducing::lawful_side))]
+// `reduce` looks at side and length too, but no memory must be asked for what it refuses by them.
+#[tactic(auto, using(crate::proofs::Reducing::refused_side, crate::proofs::Reducing::refused_length, crate::proofs::Reducing::lawful_side))]
 pub(crate) fn reduced<T: Scalar>(
     heap: Global,
     n: usize,
@@ -22,6 +22,9 @@ pub(crate) fn reduced<T: Scalar>(
 {
     if !side_fits(n) {
         return Err(Fault::Side.into());
+    }
+    if table.len() != n * n {
+        return Err(Fault::Length.into());
     }
     let mut values = zeros(heap, n)?;
     let mut offs = zeros(heap, n - 1)?;

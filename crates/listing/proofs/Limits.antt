@@ -6,7 +6,7 @@ use Rattle.fault.specs.Refusals.{refused}
 use Rattle.tridiagonal.specs.Householder.{Kind}
 use Rattle.decomposition.specs.Kinds.{r64, c64}
 use Rattle.decomposition.specs.Solutions.{Solution, solved, failed, starved}
-use Rattle.decomposition.proofs.Limits.{limits}
+use Rattle.decomposition.proofs.Limits.{any_limit as solution_limit}
 use Rattle.job.specs.Typed.{Typed, entries}
 use Rattle.sheet.specs.declared.desk.Asked.{Asked}
 use Rattle.sheet.specs.declared.kind.Kind.{Kind as TableKind}
@@ -32,7 +32,7 @@ module _ {C : Type 0} (S : ShownAs C) (K : Kind C Float) (asked : Asked) (j : Ty
           (1 ≤ m → m ≤ passes → made_of_typed S K asked (record j { limit = m }) ≡ fails (rule (refused 7 (m ∷ []))))
       by (solved e) is listed =
           let same : e.passes ≡ passes = cc in
-          let law = limits K (wants_vectors asked) j.side (entries K.ops j) j.tolerance j.limit in (
+          let law = solution_limit K (wants_vectors asked) j.side (entries K.ops j) j.tolerance j.limit in (
             λ ok h. ap (made_from S j.side j.largest) (law.above e m is ok (rw same h) ∙ is),
             λ least h. ap (made_from S j.side j.largest) (law.within e m is least (rw same h)),
           )

@@ -60,13 +60,14 @@ crossing_fits n c =
     length c.table == n * n
     && (length c.values == n && (length c.offs == n - 1 && (length c.signs == n - 1 && length c.q == n * n)))
 
-module _ {C R P : Type 0} (K : Kind C R) (inward : P → C) (outward : C → P) where
+module _ {C R P : Type 0} (K : Kind C R) (inward : P → C) where
   -- In this order: the side, the lengths, want of memory, the first entry whose size is not finite.
   abbrev pub crossing_refusal : ℕ → Crossing P R → Bool → Option Refusal
   crossing_refusal n c enough =
       cond (side_refused n) (Some (refused 1 []))
       (cond (crossing_fits n c) (unless_starved enough (entry_refusal K n 0 (map inward c.table))) (Some (refused 2 [])))
 
+module _ {C R P : Type 0} (K : Kind C R) (inward : P → C) (outward : C → P) where
   -- What is left by a call that is refused so, or is not.
   pub record Crossed (n : ℕ) (given : Crossing P R) (why : Option Refusal) (left : Crossing P R) : Type 0 where
     pub table : left.table ≡ unless_refused why given.table (map outward (reduced_table K n (map inward given.table)))

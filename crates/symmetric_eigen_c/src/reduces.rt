@@ -1,10 +1,10 @@
 // The exported reductions: a table reduced, with its matrix Q. One for each kind, and slices, as in `solves`.
 ghost use Rattle.std.specs.Prelude.{◌≡◌};
-ghost use Rattle.symmetric_eigen_c.specs.Forms.{Crossed, Formed, crossing, crossing_refusal, form_refusal, with_q};
+ghost use Rattle.tridiagonal.specs.Runs.{buffers};
 ghost use Rattle.decomposition.specs.Kinds.{c32, c64, r32, r64};
+ghost use Rattle.symmetric_eigen_c.specs.Forms.{Crossed, Formed, crossing, crossing_refusal, form_refusal, with_q};
 ghost use Rattle.symmetric_eigen_c.specs.Outcomes.{had_room, told_unless_none};
 ghost use Rattle.symmetric_eigen_c.specs.Points.{complex_of_32, complex_of_64, point_32, point_64};
-ghost use Rattle.tridiagonal.specs.Runs.{buffers};
 
 use crate::outcome::Outcome;
 use crate::points::{Complex32, Complex64};
@@ -65,11 +65,11 @@ pub extern "C" fn symmetric_eigen_c_reduce_c64(
     signs: &mut [Complex64],
     q: &mut [Complex64],
 ) -> Outcome
-    ensures answer { result ≡ told_unless_none (crossing_refusal c64 complex_of_64 point_64 n
+    ensures answer { result ≡ told_unless_none (crossing_refusal c64 complex_of_64 n
         (crossing table.old values.old offs.old signs.old q.old) (had_room result)) }
     ensures left { Crossed c64 complex_of_64 point_64 n
         (crossing table.old values.old offs.old signs.old q.old)
-        (crossing_refusal c64 complex_of_64 point_64 n (crossing table.old values.old offs.old signs.old q.old) (had_room result))
+        (crossing_refusal c64 complex_of_64 n (crossing table.old values.old offs.old signs.old q.old) (had_room result))
         (crossing table.new values.new offs.new signs.new q.new) }
 {
     reduce_across::<Complex<f64>, Complex64>(heap, n, table, values, offs, signs, q)
@@ -86,11 +86,11 @@ pub extern "C" fn symmetric_eigen_c_reduce_c32(
     signs: &mut [Complex32],
     q: &mut [Complex32],
 ) -> Outcome
-    ensures answer { result ≡ told_unless_none (crossing_refusal c32 complex_of_32 point_32 n
+    ensures answer { result ≡ told_unless_none (crossing_refusal c32 complex_of_32 n
         (crossing table.old values.old offs.old signs.old q.old) (had_room result)) }
     ensures left { Crossed c32 complex_of_32 point_32 n
         (crossing table.old values.old offs.old signs.old q.old)
-        (crossing_refusal c32 complex_of_32 point_32 n (crossing table.old values.old offs.old signs.old q.old) (had_room result))
+        (crossing_refusal c32 complex_of_32 n (crossing table.old values.old offs.old signs.old q.old) (had_room result))
         (crossing table.new values.new offs.new signs.new q.new) }
 {
     reduce_across::<Complex<f32>, Complex32>(heap, n, table, values, offs, signs, q)

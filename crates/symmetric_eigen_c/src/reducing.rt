@@ -1,12 +1,12 @@
 // Reducing a table and assembling its matrix Q.
 ghost use Rattle.std.specs.Prelude.{◌≡◌, ◌*◌, length, map};
-ghost use Rattle.symmetric_eigen_c.specs.Forms.{Crossed, Formed, crossing, crossing_refusal, form_refusal, q_of, unless_starved, with_q};
-ghost use Rattle.symmetric_eigen_c.specs.Outcomes.{failed_in, had_memory, had_room, told_unless_none};
 ghost use Rattle.tridiagonal.specs.Checks.{refusal_for};
 ghost use Rattle.tridiagonal.specs.Householder.{kind};
 ghost use Rattle.tridiagonal.specs.Outcome.{LeftOpen, refused_in, unless_refused};
 ghost use Rattle.tridiagonal.specs.Reduce.{reduced_table, values_of, offs_of, signs_of};
 ghost use Rattle.tridiagonal.specs.Runs.{buffers};
+ghost use Rattle.symmetric_eigen_c.specs.Forms.{Crossed, Formed, crossing, crossing_refusal, form_refusal, q_of, unless_starved, with_q};
+ghost use Rattle.symmetric_eigen_c.specs.Outcomes.{failed_in, had_memory, had_room, told_unless_none};
 
 use crate::crossing::{Crossing, numbers, put_numbers};
 use crate::outcome::Outcome;
@@ -144,7 +144,7 @@ fn crossed<T: Scalar, C: Crossing<T>>(
     signs: &mut [C],
     q: &mut [C],
 ) -> Result<(), Failure>
-    ensures answer { failed_in result ≡ crossing_refusal (kind T.ops T.Real.ops T.Real.real) C.inward C.outward n
+    ensures answer { failed_in result ≡ crossing_refusal (kind T.ops T.Real.ops T.Real.real) C.inward n
         (crossing table.old values.old offs.old signs.old q.old) (had_memory result) }
     ensures left { Crossed (kind T.ops T.Real.ops T.Real.real) C.inward C.outward n
         (crossing table.old values.old offs.old signs.old q.old)
@@ -170,11 +170,11 @@ pub(crate) fn reduce_across<T: Scalar, C: Crossing<T>>(
     signs: &mut [C],
     q: &mut [C],
 ) -> Outcome
-    ensures answer { result ≡ told_unless_none (crossing_refusal (kind T.ops T.Real.ops T.Real.real) C.inward C.outward n
+    ensures answer { result ≡ told_unless_none (crossing_refusal (kind T.ops T.Real.ops T.Real.real) C.inward n
         (crossing table.old values.old offs.old signs.old q.old) (had_room result)) }
     ensures left { Crossed (kind T.ops T.Real.ops T.Real.real) C.inward C.outward n
         (crossing table.old values.old offs.old signs.old q.old)
-        (crossing_refusal (kind T.ops T.Real.ops T.Real.real) C.inward C.outward n
+        (crossing_refusal (kind T.ops T.Real.ops T.Real.real) C.inward n
         (crossing table.old values.old offs.old signs.old q.old) (had_room result))
         (crossing table.new values.new offs.new signs.new q.new) }
 {

@@ -1,8 +1,8 @@
 // The exported decompositions: a table's values and vectors. A slice crosses as a pointer and a length; `heap` takes no bytes.
 // One for each kind, written out: an export has no type parameters, and `rt ci` refuses items by a macro.
 ghost use Rattle.std.specs.Prelude.{◌≡◌, length, map};
-ghost use Rattle.symmetric_eigen_c.specs.Calls.{solution_into, outcome_of, values_or, vectors_or};
 ghost use Rattle.decomposition.specs.Kinds.{c32, c64, r32, r64};
+ghost use Rattle.symmetric_eigen_c.specs.Calls.{solution_into, outcome_of, values_or, vectors_or};
 ghost use Rattle.symmetric_eigen_c.specs.Outcomes.{had_room};
 ghost use Rattle.symmetric_eigen_c.specs.Points.{complex_of_32, complex_of_64, point_32, point_64};
 

@@ -1,14 +1,16 @@
 use Rattle.std.proofs.Common.{◌≡◌, ℕ, ◌*◌, true, IfOk, length, vec_items, sym, ap, ◌∙◌, subst}
 use Rattle.std.proofs.lemmas.List.{with_items_is}
+use Rattle.std.proofs.lemmas.Option.{none-some}
 use Rattle.rows.specs.Keepers.{Kept}
 use Rattle.rows.specs.Makes.{all_rows}
 use Rattle.tridiagonal.specs.Householder.{kind}
 use Rattle.decomposition.specs.Forms.{Counts, form_of}
 use Rattle.decomposition.specs.Solutions.{Form, given_room, had_room, solution_of}
-use Rattle.decomposition.proofs.Limits.{limits}
-use Rattle.decomposition.proofs.Lowers.{lower_triangle}
+use Rattle.decomposition.proofs.Limits.{any_limit}
+use Rattle.decomposition.proofs.Lowers.{only_lower}
+use Rattle.decomposition.proofs.Reducing.{side_refusal, table_whole}
 use Rattle.decomposition.proofs.Settling.{assembled, held_of_q, rows_held, settled_with_q, count_of_q}
-use Rattle.decomposition.proofs.Whole.{solves, same_values, no_form}
+use Rattle.decomposition.proofs.Whole.{solves, same_values}
 use Rattle.decomposition.proofs.solve.symmetric_eigen.Goals as goal
 
 pub returns : goal.returns
@@ -37,7 +39,8 @@ returns g c =
     ∙ solves K n (vec_items c.args.table) c.args.tolerance c.args.limit true f told.0 told.1) in
     record {
       solution = came;
-      side = λ refused. absurd (no_form K n (vec_items c.args.table) refused told.0);
+      refused_side = λ refused. absurd (none-some _ (sym told.0 ∙ side_refusal K n (vec_items c.args.table) refused));
+      refused_length = λ lawful wrong. absurd (wrong (table_whole K n (vec_items c.args.table) told.0));
       counts =
           subst (λ (k : ℕ). IfOk c.solved.result (Counts k (k * k))) side
           (subst (λ (k : ℕ). IfOk c.solved.result (Counts f.side (f.side * k))) (ap (λ (k : Kept _). length k.rows) held ∙ count_of_q K f)
@@ -45,6 +48,11 @@ returns g c =
       same_values =
           same_values K n (vec_items c.args.table) c.args.tolerance c.args.limit (solution_of c.solved.result)
           (had_room c.solved.result) came;
-      limits = limits K true n (vec_items c.args.table) c.args.tolerance c.args.limit;
-      lower_triangle = lower_triangle K n (vec_items c.args.table) c.args.tolerance c.args.limit;
+      any_limit = any_limit K true n (vec_items c.args.table) c.args.tolerance c.args.limit;
+      only_lower = only_lower K true n (vec_items c.args.table) c.args.tolerance c.args.limit;
     }
+
+pub returns-in_err-q-clause-refused_length : goal.returns-in_err-q-clause-refused_length
+returns-in_err-q-clause-refused_length g c =
+    let K = kind g.T.Arithmetic.ops g.T.Real.Arithmetic.ops g.T.Real.RealScalar.real in
+    λ lawful wrong. absurd (wrong (table_whole K c.args.n (vec_items c.args.table) c.in_ok-form.ensures.form.0))
