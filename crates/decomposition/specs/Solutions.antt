@@ -43,8 +43,8 @@ module _ {C R : Type 0} where
   solution_of (Err (Solver fault)) = failed (refusal fault)
   solution_of (Err Memory) = starved
 
-  -- Whether the answer is other than want of memory. This tests the answer and not the memory: at each side that is not refused, want of
-  -- memory is open on every input.
+  -- Whether the answer is other than want of memory. This tests the answer and not the memory: where side and length fit, want of memory
+  -- is open on every input.
   abbrev pub had_room : Result (Solved C R) Failure → Bool
   had_room (Ok s) = true
   had_room (Err (Solver fault)) = true
