@@ -1,5 +1,6 @@
 #!/usr/bin/env python3
-"""Plants bugs in a crate, one at a time, and says what becomes of each: `tools/plant.py CRATE [--count N] [--seed S] [--list]`.
+"""Plants bugs in a crate, one at a time, and says what becomes of each: `tools/plant.py CRATE [--count N] [--seed S] [--file NAME]
+[--list]`.
 
 Each bug is one line of crates/CRATE/src turned into another of the same shape: another operand, a neighbouring comparison, another
 constant, two arguments exchanged, a write left out, another refusal. Clauses, ghost lines, comments and signatures are left alone.
@@ -128,10 +129,11 @@ def main():
     parser.add_argument("crate")
     parser.add_argument("--count", type=int, default=40)
     parser.add_argument("--seed", type=int, default=1)
+    parser.add_argument("--file", default="", help="only in files whose name has this in it")
     parser.add_argument("--list", action="store_true")
     args = parser.parse_args()
     os.chdir(os.path.join(os.path.dirname(os.path.abspath(__file__)), ".."))
-    pool = list(bugs(args.crate))
+    pool = [bug for bug in bugs(args.crate) if args.file in bug[0]]
     random.Random(args.seed).shuffle(pool)
     if args.list:
         for path, number, old, new in pool:
