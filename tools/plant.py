@@ -35,7 +35,7 @@ EXCHANGES = [
 ]
 NOT_CODE = ("//", "#[", "#![", "use ", "pub use", "pub(crate) use", "mod ", "pub mod", "fn ", "pub fn", "pub(crate) fn", "final fn", "impl", "struct ",
             "pub struct", "pub(crate) struct", "enum ", "pub enum", "pub(crate) enum", "trait ", "pub trait", "pub(crate) trait", "type ", "where",
-            "const ", "}", ")")
+            "}", ")")
 
 
 def code_lines(text):

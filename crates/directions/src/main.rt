@@ -1,16 +1,24 @@
 // Reads a sheet from standard input and prints its listing.
 #![tactic(auto)]
 
+ghost use Rattle.std.specs.Prelude.{◌≡◌, ◌+◌};
+ghost use Rattle.listing.specs.Listings.{longest};
+
 use anyhow::anyhow;
 use listing::list_sheet;
 use std::io::Read;
 
-// One byte more than a sheet can have tells that it is too long.
-const ENOUGH: u64 = 32_769;
+// How many bytes are read: one more than a sheet can have tells that it is too long. Nothing else in this program could show a limit
+// that is one too small, so it is proved.
+fn enough() -> u64
+    ensures value { result ≡ longest + 1 }
+{
+    32_769
+}
 
 fn read_sheet(rt: &HostRuntime) -> anyhow::Result<Vec<u8>> {
     let mut sheet = Vec::new(rt.alloc());
-    let mut input = rt.stdin().take(ENOUGH);
+    let mut input = rt.stdin().take(enough());
     input.read_to_end(&mut sheet)?;
     Ok(sheet)
 }
