@@ -1,13 +1,14 @@
 -- The proved cases, as one table: real tables column by column, binary64. Definitions only.
-use Rattle.std.specs.Prelude.{◌≡◌, ℕ, Bool, true, List, [], ◌∷◌, pos, negsuc, from_bits, Float, false}
+use Rattle.std.specs.Prelude.{◌≡◌, ℕ, Bool, true, List, [], ◌∷◌, map, pos, negsuc, from_bits, Float, false}
 use Rattle.std.specs.Float.{binary64, fin}
 use Rattle.fault.specs.Refusals.{Refusal, refused}
 use Rattle.scalar.specs.FloatOps.{float_ops}
 use Rattle.root.specs.Root.{root_of}
-use Rattle.rows.specs.Turns.{Turn, turned, turn_of}
+use Rattle.rows.specs.Turns.{Turn, turned, turn_of, turned_all}
 use Rattle.rows.specs.declared.direction.Direction.TheVariants.{Forward}
+use Rattle.eigen.specs.Settles.{settle_of}
 use Rattle.decomposition.specs.Kinds.{r64}
-use Rattle.decomposition.specs.Solutions.{Solution, solved, failed, starved, solution}
+use Rattle.decomposition.specs.Solutions.{Solution, solved, failed, starved, solution, reduced_form, rows_of_q, task_of}
 
 -- solved in so many passes, with these values
 abbrev pub Settles : Solution Float Float → ℕ → List Float → Type 0
@@ -21,14 +22,20 @@ SettlesWith (solved e) passes values vectors = (e.passes ≡ passes) × (e.value
 SettlesWith (failed why) passes values vectors = ⊥
 SettlesWith starved passes values vectors = ⊥
 
+-- the rows that a run with all rows of Q leaves
+abbrev pub rows_left : ℕ → List Float → Float → ℕ → List (List Float)
+rows_left n t tolerance limit =
+    map (turned_all r64.ops (settle_of r64.reals r64.real (task_of (reduced_form r64 n t) tolerance) limit).turns)
+    (rows_of_q r64 (reduced_form r64 n t))
+
 pub data Case : Type 0 where
   -- a table of this side, tolerance and limit is refused so
   refuses : (side : ℕ) (table : List Float) (tolerance : Float) (limit : ℕ) (why : Refusal) → Case
   -- it settles with these values in so many passes
   settles : (side : ℕ) (table : List Float) (tolerance : Float) (limit : ℕ) (values : List Float) (passes : ℕ) → Case
-  -- and, where they are asked for, with these vectors, column by column
+  -- and, where they are asked for, with these vectors, column by column, which a run leaves as these rows
   settles_with : (side : ℕ) (table : List Float) (tolerance : Float) (limit : ℕ) (values : List Float) (passes : ℕ)
-      (vectors : List Float) → Case
+      (vectors : List Float) (rows : List (List Float)) → Case
   -- the root of a number
   roots : (v r : Float) → Case
   -- a row turned
@@ -38,9 +45,10 @@ pub data Case : Type 0 where
 abbrev pub Holds : Case → Type 0
 Holds (refuses n t tolerance limit why) = (asked : Bool) → solution r64 asked n t tolerance limit ≡ failed why
 Holds (settles n t tolerance limit values passes) = (asked : Bool) → Settles (solution r64 asked n t tolerance limit) passes values
-Holds (settles_with n t tolerance limit values passes vectors) =
+Holds (settles_with n t tolerance limit values passes vectors rows) =
     Settles (solution r64 false n t tolerance limit) passes values
     × SettlesWith (solution r64 true n t tolerance limit) passes values vectors
+    × (rows_left n t tolerance limit ≡ rows)
 Holds (roots v r) = root_of binary64 v ≡ r
 Holds (turns t row after) = turned (float_ops binary64) t row ≡ after
 
@@ -67,7 +75,7 @@ fine = fin false 1 (negsuc 51)
 abbrev pub cases : List Case
 cases =
     refuses 0 [] fine 1 (refused 1 [])
-    ∷ settles_with 1 (minus 3 0 ∷ []) fine 1 (minus 3 0 ∷ []) 0 (whole 1 0 ∷ [])
+    ∷ settles_with 1 (minus 3 0 ∷ []) fine 1 (minus 3 0 ∷ []) 0 (whole 1 0 ∷ []) ((whole 1 0 ∷ []) ∷ [])
     ∷ settles 2 (o ∷ o ∷ o ∷ o ∷ []) fine 1 (o ∷ o ∷ []) 0
     ∷ refuses 2 (o ∷ whole 1 0 ∷ whole 1 0 ∷ o ∷ []) fine 1 (refused 7 (1 ∷ []))
     ∷ settles 2 (o ∷ whole 1 0 ∷ whole 1 0 ∷ o ∷ []) fine 2 (whole 1 0 ∷ minus 1 0 ∷ []) 1

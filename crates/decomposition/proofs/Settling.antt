@@ -29,7 +29,7 @@ columns_of_none d zero = refl
 columns_of_none d (suc k) = simp (columns_of_none d k)
 
 module _ {C R : Type 0} (K : Kind C R) (f : Form C R) (tolerance : R) (limit : ℕ) where
-  abbrev run : Run R
+  abbrev pub run : Run R
   run = settle_of K.reals K.real (task_of f tolerance) limit
 
   pub settled_with_none : (w : ℕ) →

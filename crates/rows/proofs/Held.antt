@@ -45,7 +45,7 @@ module _ {C : Type 0} (a b : Kept C) where
   abbrev joined : Kept C
   joined = record { width = a.width; rows = a.rows ++ b.rows }
 
-  both_joined : both_fit a b ≡ true → both a b ≡ joined
+  pub both_joined : both_fit a b ≡ true → both a b ≡ joined
   both_joined e = cond-true (both_fit a b) joined nothing e
 
 -- a place of both

@@ -4,7 +4,7 @@ use Rattle.std.proofs.lemmas.List.{same_lists}
 use Rattle.fault.specs.Refusals.{Refusal}
 use Rattle.tridiagonal.specs.Checks.{refusal_for}
 use Rattle.tridiagonal.specs.Householder.{Kind}
-use Rattle.tridiagonal.specs.Outcome.{Outcome, Reduced, Refused, reduce_outcome}
+use Rattle.tridiagonal.specs.Outcome.{Outcome, Reduced, Refused, reduce_outcome, unless_refused}
 use Rattle.tridiagonal.specs.Reduce.{largest_size, divided, reduced_lower, reduced_signs, reduced_offs, reduced_values, reduced_table, values_of, offs_of, signs_of}
 use Rattle.tridiagonal.specs.Runs.{Buffers, ReduceRun, AlikeBelow, OnlyLower}
 use Rattle.tridiagonal.specs.Tables.{lower, put}
@@ -128,4 +128,18 @@ module _ {C R : Type 0} (K : Kind C R) where
         offs = f ∙ sym (unless_none _ given.offs (offs_of K n given.table) e);
         signs = s ∙ sym (unless_none _ given.signs (signs_of K n given.table) e);
         scratch = rw e c;
+      }
+
+  -- A call that is refused is a run.
+  pub refused_run : (n : ℕ) (given : Buffers C R) (answer : Outcome R) (why : Refusal) →
+      refusal_for K n given.table given.values given.offs given.signs given.scratch ≡ Some why →
+      answer ≡ Refused why → ReduceRun K n given answer given
+  refused_run n given answer why e is =
+      record {
+        answer = is ∙ sym (ap (λ z. reduce_outcome z n (largest_size K given.table)) e);
+        table = sym (ap (λ z. unless_refused z given.table (reduced_table K n given.table)) e);
+        values = sym (ap (λ z. unless_refused z given.values (values_of K n given.table)) e);
+        offs = sym (ap (λ z. unless_refused z given.offs (offs_of K n given.table)) e);
+        signs = sym (ap (λ z. unless_refused z given.signs (signs_of K n given.table)) e);
+        scratch = rw e refl;
       }

@@ -93,6 +93,8 @@ impl<T: Scalar> Table<'_, T> {
 }
 
 // Fills q with the matrix Q of a reduction, from the table and the signs that it left. The reduction stays usable.
+// Never inlined, for the reason beside `reduce`.
+#[inline(never)]
 pub fn assemble<T: Scalar>(
     reduction: &Reduction<T::Real>,
     table: &[T],

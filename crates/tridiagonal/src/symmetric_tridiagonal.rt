@@ -182,6 +182,9 @@ fn reduce_accepted<T: Scalar>(
 
 // Reduces a table of side n, column by column, to tridiagonal form: values get the diagonal, signs the norms that the
 // steps report, offs their moduli, and the axes stay in the table. What scratch holds afterwards is left open.
+// Never inlined: in the midst of a larger function the compiler loses sight of it that the slices lie apart, and the loops over complex
+// numbers take one at a time; over binary32 that was half as long again as at four at a time.
+#[inline(never)]
 pub fn reduce<T: Scalar>(
     n: usize,
     table: &mut [T],

@@ -23,7 +23,7 @@ returns c = record {
   cases = (
     λ asked. refl,
     (
-      ((refl, refl), (refl, refl, refl)),
+      ((refl, refl), (refl, refl, refl), refl),
       (
         λ asked. (refl, refl),
         (
